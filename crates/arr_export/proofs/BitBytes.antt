@@ -2,8 +2,8 @@
 use Rattle.std.proofs.Common.{◌≡◌, ◌∙◌, ℕ, zero, suc, ◌+◌, ◌/◌, ◌%◌, ◌<◌, Bool, true, false, List, [], ◌∷◌, length, get_or, refl, ap, arith}
 use Rattle.std.proofs.lemmas.Nat.Bits.{bit_at-suc, bit_at_lowest}
 use Rattle.std.specs.Int.{bit_at}
-use Rattle.data_types.specs.Packed.{bit}
-use Rattle.col_build.specs.Encoding.{bit_value, byte_of, bit_bytes}
+use Rattle.data_types.specs.promise.Packed.{bit}
+use Rattle.col_build.specs.promise.Encoding.{bit_value, byte_of, bit_bytes}
 
 bit_value-small : (flag : Bool) → bit_value flag < 2
 bit_value-small true = omega arith

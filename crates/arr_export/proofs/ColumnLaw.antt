@@ -2,18 +2,21 @@
 use Rattle.std.proofs.Common.{◌≡◌, ◌∙◌, ℕ, ◌+◌, ◌<◌, pos, Bool, true, false, not, List, [], length, get_or, refl, sym, ap, arith, Option, None, Some}
 use Rattle.std.specs.Prelude.{if◌then◌else◌}
 use Rattle.std.proofs.lemmas.List.Elements.{All-cons, All-nil}
-use Rattle.raw_array.specs.Members.{ArrayMembers, ArrayTree, Buffer}
+use Rattle.raw_array.specs.promise.Members.{ArrayMembers, ArrayTree, Buffer}
 use Rattle.raw_array.specs.declared.array.ReleaseKind.TheVariants.{Exported}
-use Rattle.tree_model.specs.Tree.{Live, absent, no_trees}
-use Rattle.data_types.specs.Value.{Value, Null, Truth}
+use Rattle.tree_model.specs.promise.TreeData.{Live, absent, no_trees}
+use Rattle.data_types.specs.promise.Value.{Value, Null, Truth}
 use Rattle.data_types.specs.declared.kind.DataType.{DataType}
-use Rattle.col_build.specs.Encoding.{Fits, is_null, null_total}
-use Rattle.data_types.specs.KindTrees.{KindTree}
-use Rattle.layout_rules.specs.Rules.{count_wrong, indices_wrong, length_if, one_if}
-use Rattle.layout_rules.specs.Values.{item, value_at, values_of}
-use Rattle.data_types.specs.Ways.{Steps}
-use Rattle.layout_rules.specs.Walk.{LayoutOk, node_fault, visit_fault}
-use Rattle.arr_export.specs.ArrayTrees.{column_members, column_tree, flat_type}
+use Rattle.data_types.specs.promise.Value.{is_null}
+use Rattle.col_build.specs.promise.Encoding.{null_total}
+use Rattle.col_build.specs.Encoding.{Fits}
+use Rattle.data_types.specs.promise.KindTrees.{KindTree}
+use Rattle.layout_rules.specs.promise.Rules.{count_wrong, indices_wrong, length_if, one_if}
+use Rattle.layout_rules.specs.promise.Values.{item, value_at, values_of}
+use Rattle.data_types.specs.promise.Ways.{Steps}
+use Rattle.layout_rules.specs.promise.Walk.{LayoutOk, node_fault, visit_fault}
+use Rattle.arr_export.specs.promise.ArrayTrees.{column_members, column_tree}
+use Rattle.arr_export.specs.ArrayTrees.{flat_type}
 use Rattle.arr_export.proofs.ColumnReads.{Reads, reads}
 use Rattle.arr_export.proofs.Each.{each-is}
 use Rattle.arr_export.proofs.NodeRules.{node-ok}

@@ -5,26 +5,28 @@ use Rattle.std.specs.Prelude.{if◌then◌else◌, nat_lt, ◌&&◌}
 use Rattle.std.specs.List.{All, concat}
 use Rattle.std.specs.Str.{is_utf8}
 use Rattle.std.specs.Str.Lossy.{utf8_valid_len}
-use Rattle.raw_array.specs.Members.{ArrayMembers, Buffer}
+use Rattle.raw_array.specs.promise.Members.{ArrayMembers, Buffer}
 use Rattle.data_types.specs.Packed.{IsWidth}
-use Rattle.data_types.specs.FieldText.{Form, Truths, Wholes, FloatBits, Text, HexBytes, SizedHex, Decimals, form_of, places, stored_form}
+use Rattle.data_types.specs.promise.FieldText.{Form, Truths, Wholes, FloatBits, Text, HexBytes, SizedHex, Decimals, form_of, places, stored_form}
 use Rattle.std.proofs.lemmas.Bool.{ltb-true}
-use Rattle.data_types.specs.Value.{Value, Null, Truth, Whole, Bytes}
+use Rattle.data_types.specs.promise.Value.{Value, Null, Truth, Whole, Bytes}
 use Rattle.data_types.specs.declared.kind.DataType.{DataType}
 use Rattle.data_types.specs.declared.kind.DataType.TheVariants as kinds
 use Rattle.data_types.specs.declared.storage.Storage.{Storage}
 use Rattle.data_types.specs.declared.storage.Storage.TheVariants as stored
-use Rattle.data_types.specs.Storage.{storage_of}
+use Rattle.data_types.specs.promise.Storage.{storage_of}
 use Rattle.col_build.proofs.ShapeFacts.{FormOk, form-ok}
-use Rattle.col_build.specs.Encoding.{Fits, HasForm, buffers_if, bytes_of, encoded, fault_if, in_place as in_place_bytes, is_null, is_by_offsets, is_wide, is_within}
-use Rattle.col_build.specs.Encoding.{stored_item}
-use Rattle.layout_rules.specs.Layout.{bytes, data_of, is_valid, laid_out, layout_of, stored_number}
-use Rattle.layout_rules.specs.Rules.{not_text, texts_wrong}
-use Rattle.layout_rules.specs.Values.{item, stored_item as stored_value}
+use Rattle.col_build.specs.promise.Encoding.{buffers_if, encoded, in_place as in_place_bytes, is_by_offsets, is_wide, is_within}
+use Rattle.data_types.specs.promise.Value.{bytes_of, is_null}
+use Rattle.col_build.specs.Encoding.{Fits, HasForm, fault_if}
+use Rattle.col_build.specs.promise.Encoding.{stored_item}
+use Rattle.layout_rules.specs.promise.Layout.{bytes, data_of, is_valid, laid_out, layout_of, stored_number}
+use Rattle.layout_rules.specs.promise.Rules.{not_text, texts_wrong}
+use Rattle.layout_rules.specs.promise.Values.{item, stored_item as stored_value}
 use Rattle.layout_rules.specs.declared.layout.Layout.{Layout}
 use Rattle.layout_rules.specs.declared.layout.Layout.TheVariants.{FixedWidth}
-use Rattle.arr_export.specs.ArrayTrees.{made_buffers, made_if}
-use Rattle.col_build.specs.Encoding.{validity_of}
+use Rattle.arr_export.specs.promise.ArrayTrees.{made_buffers, made_if}
+use Rattle.col_build.specs.promise.Encoding.{validity_of}
 use Rattle.arr_export.proofs.Layouts.{as_bits, bit-there, bits-ok, by_offsets, data-there, fixed-ok, in_place, number-stored, offsets-ok, stored-there}
 use Rattle.arr_export.proofs.NodeRules.{BuffersOk, below-none, no-fault}
 use Rattle.arr_export.proofs.Nulls.{own, valid-at}

@@ -2,11 +2,14 @@
 use Rattle.std.proofs.Common.{◌≡◌, ◌∙◌, ◌+◌, ◌<◌, ◌≤◌, ℕ, zero, suc, List, [], ◌∷◌, ◌++◌, length, map, take, get_or, refl, ap, arith}
 use Rattle.std.proofs.lemmas.List.{map-append, take_more}
 use Rattle.data_types.specs.ColumnView.{column_of}
-use Rattle.data_types.specs.Table.{Kind, Flat, Dict, Columns}
+use Rattle.data_types.specs.promise.Table.{Kind, Flat, Dict, Columns}
 use Rattle.data_types.specs.declared.kind.ColumnType.{ColumnType}
-use Rattle.tree_model.specs.Tree.{Depth, depth_of_all, trees}
-use Rattle.raw_schema.specs.Members.{Nodes, SchemaTree, nodes_of_all}
-use Rattle.schema_check.specs.ColumnSchema.{column_schema, schema_of_column}
+use Rattle.tree_model.specs.promise.TreeData.{trees}
+use Rattle.tree_model.specs.Tree.{Depth, depth_of_all}
+use Rattle.tree_model.specs.promise.TreeCost.{Nodes}
+use Rattle.raw_schema.specs.promise.Members.{SchemaTree}
+use Rattle.raw_schema.specs.Members.{nodes_of_all}
+use Rattle.schema_check.specs.promise.ColumnSchema.{column_schema, schema_of_column}
 use Rattle.arr_export.specs.CodeSchema.{code_schema}
 
 -- the schemas of the columns that the code keeps

@@ -1,6 +1,6 @@
 -- The values of a function from a number on, as a list.
 use Rattle.std.proofs.Common.{◌≡◌, ◌∙◌, ℕ, zero, suc, ◌+◌, ◌<◌, List, [], ◌∷◌, length, get_or, refl, sym, ap, arith}
-use Rattle.layout_rules.specs.Values.{each}
+use Rattle.layout_rules.specs.promise.Values.{each}
 
 -- they are those of a list
 pub each-is : {X : Type 0} → (f : ℕ → X) (xs : List X) (from : ℕ) (d : X) → ((i : ℕ) → i < length xs → f (from + i) ≡ get_or xs i d)

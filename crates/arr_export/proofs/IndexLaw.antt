@@ -5,20 +5,22 @@ use Rattle.std.specs.Prelude.{if◌then◌else◌, ◌&&◌}
 use Rattle.std.specs.List.{All}
 use Rattle.std.proofs.lemmas.Bool.{lt-ltb}
 use Rattle.std.proofs.lemmas.List.{get_or-map, length-map}
-use Rattle.tree_model.specs.Tree.{Released, Live, no_trees, present}
-use Rattle.raw_array.specs.Members.{ArrayMembers, ArrayTree}
-use Rattle.data_types.specs.Value.{Value, Null, Truth, Whole}
+use Rattle.tree_model.specs.promise.TreeData.{Released, Live, no_trees, present}
+use Rattle.raw_array.specs.promise.Members.{ArrayMembers, ArrayTree}
+use Rattle.data_types.specs.promise.Value.{Value, Null, Truth, Whole}
 use Rattle.data_types.specs.declared.kind.DataType.{DataType}
 use Rattle.data_types.specs.declared.kind.DataType.TheVariants as kinds
-use Rattle.col_build.specs.Encoding.{Fits, is_null}
-use Rattle.data_types.specs.KindTrees.{KindTree}
-use Rattle.layout_rules.specs.Layout.{is_valid, natural, stored_number}
-use Rattle.layout_rules.specs.Rules.{index_wrong, indices_wrong, is_outside, live_length}
-use Rattle.layout_rules.specs.Values.{each, tree_items, value_at, values_of}
-use Rattle.data_types.specs.Ways.{dictionary_step}
-use Rattle.layout_rules.specs.Walk.{LayoutOk, first_some, node_fault, visit_fault, visits}
+use Rattle.data_types.specs.promise.Value.{is_null}
+use Rattle.col_build.specs.Encoding.{Fits}
+use Rattle.data_types.specs.promise.KindTrees.{KindTree}
+use Rattle.layout_rules.specs.promise.Layout.{is_valid, natural, stored_number}
+use Rattle.layout_rules.specs.promise.Rules.{index_wrong, indices_wrong, is_outside, live_length}
+use Rattle.layout_rules.specs.promise.Values.{each, tree_items, value_at, values_of}
+use Rattle.data_types.specs.promise.Ways.{dictionary_step}
+use Rattle.layout_rules.specs.promise.Walk.{LayoutOk, first_some, node_fault, visit_fault, visits}
 use Rattle.layout_rules.proofs.Lawful.{first_fault-lawful, lawful-first_fault}
-use Rattle.arr_export.specs.ArrayTrees.{AreIndices, IsPlaceOf, column_members, column_tree, flat_type, looked_up}
+use Rattle.arr_export.specs.promise.ArrayTrees.{column_members, column_tree}
+use Rattle.arr_export.specs.ArrayTrees.{AreIndices, IsPlaceOf, flat_type, looked_up}
 use Rattle.arr_export.proofs.ColumnLaw.{column-node, members-are}
 use Rattle.arr_export.proofs.ColumnReads.{Reads, reads}
 use Rattle.arr_export.proofs.Each.{each-is, value-there}

@@ -4,15 +4,16 @@ use Rattle.std.proofs.Common.{drop, refl, ap, arith, Option, None, Some}
 use Rattle.std.specs.Prelude.{if◌then◌else◌, int_lt, nat_lt, ◌==◌, ◌||◌}
 use Rattle.std.proofs.lemmas.List.{get_or-map, length-map}
 use Rattle.std.specs.List.{All, concat, flat_map}
-use Rattle.raw_array.specs.Members.{Buffer}
-use Rattle.data_types.specs.Value.{Value, Null}
-use Rattle.data_types.specs.Packed.{bit, le_bytes, le_number, number_at, offset_width}
-use Rattle.col_build.specs.Encoding.{bit_bytes, bit_value, bytes_of, if_some, is_set, offset_bytes, stored_item}
-use Rattle.layout_rules.specs.Layout.{bytes, data_of, end, natural, offset_in, offsets_need, stored_bytes}
-use Rattle.layout_rules.specs.Rules.{buffer_short, fault, first_below, is_negative, offset_falls, offsets_fall}
+use Rattle.raw_array.specs.promise.Members.{Buffer}
+use Rattle.data_types.specs.promise.Value.{Value, Null}
+use Rattle.data_types.specs.promise.Packed.{bit, le_bytes, le_number, number_at, offset_width}
+use Rattle.col_build.specs.promise.Encoding.{bit_bytes, bit_value, if_some, is_set, offset_bytes, stored_item}
+use Rattle.data_types.specs.promise.Value.{bytes_of}
+use Rattle.layout_rules.specs.promise.Layout.{bytes, data_of, end, natural, offset_in, offsets_need, stored_bytes}
+use Rattle.layout_rules.specs.promise.Rules.{buffer_short, fault, first_below, is_negative, offset_falls, offsets_fall}
 use Rattle.layout_rules.specs.declared.layout.Layout.TheVariants.{ByOffsets, FixedWidth, TruthBits}
 use Rattle.layout_rules.specs.declared.rule.Numbers.{Numbers}
-use Rattle.arr_export.specs.ArrayTrees.{made_if}
+use Rattle.arr_export.specs.promise.ArrayTrees.{made_if}
 use Rattle.arr_export.proofs.BitBytes.{bits-of, length-bit_bytes}
 use Rattle.arr_export.proofs.NodeRules.{BuffersOk, absent-none, below-none, both-none, data-back, long-data, long-if, no-fault, nulls-fit, short-none, there-if}
 use Rattle.arr_export.proofs.NodeRules.{validity-fits}

@@ -6,22 +6,22 @@ use Rattle.std.proofs.lemmas.Bool.{and_right, le-ltb}
 use Rattle.std.proofs.lemmas.Bool.Decides.{Decides-int_eq}
 use Rattle.std.specs.Option.{option_or}
 use Rattle.std.specs.Ordering.{int_eq}
-use Rattle.raw_array.specs.Members.{Buffer, ArrayMembers, ArrayTree, bytes_in}
-use Rattle.data_types.specs.Value.{Value}
+use Rattle.raw_array.specs.promise.Members.{Buffer, ArrayMembers, ArrayTree, bytes_in}
+use Rattle.data_types.specs.promise.Value.{Value}
 use Rattle.data_types.specs.declared.kind.DataType.{DataType}
-use Rattle.col_build.specs.Encoding.{if_some, null_total, validity_of}
-use Rattle.data_types.specs.KindTrees.{KindTree}
-use Rattle.layout_rules.specs.Layout.{bits_need, buffer, buffer_count, bytes, bytes_or_none, end, layout_of, need}
-use Rattle.layout_rules.specs.Rules.{Node, buffer_absent, buffer_short, count_wrong, fault_if, first_below, in_order, indices_wrong, is_behind_offsets}
-use Rattle.layout_rules.specs.Rules.{length_if, null_count_wrong, null_count_wrong_in, offsets_fall_if, one_if, prefixes_wrong, texts_wrong, views_misplaced}
-use Rattle.layout_rules.specs.Rules.{null_total as null_items}
-use Rattle.data_types.specs.Ways.{Steps}
-use Rattle.layout_rules.specs.Walk.{node_fault}
+use Rattle.col_build.specs.promise.Encoding.{if_some, null_total, validity_of}
+use Rattle.data_types.specs.promise.KindTrees.{KindTree}
+use Rattle.layout_rules.specs.promise.Layout.{bits_need, buffer, buffer_count, bytes, bytes_or_none, end, layout_of, need}
+use Rattle.layout_rules.specs.promise.Rules.{Node, buffer_absent, buffer_short, count_wrong, fault_if, first_below, in_order, indices_wrong, is_behind_offsets}
+use Rattle.layout_rules.specs.promise.Rules.{length_if, null_count_wrong, null_count_wrong_in, offsets_fall_if, one_if, prefixes_wrong, texts_wrong, views_misplaced}
+use Rattle.layout_rules.specs.promise.Rules.{null_total as null_items}
+use Rattle.data_types.specs.promise.Ways.{Steps}
+use Rattle.layout_rules.specs.promise.Walk.{node_fault}
 use Rattle.layout_rules.specs.declared.layout.Layout.{Layout}
 use Rattle.layout_rules.specs.declared.rule.LayoutRule.TheVariants as rules
 use Rattle.layout_rules.specs.declared.rule.Numbers.{Numbers}
 use Rattle.layout_rules.proofs.NamedRules.{AreMet, none-fails}
-use Rattle.arr_export.specs.ArrayTrees.{made_if}
+use Rattle.arr_export.specs.promise.ArrayTrees.{made_if}
 use Rattle.arr_export.proofs.Nulls.{nulls-are, own, validity-long}
 
 pub both-none : {X : Type 0} → (a b : Option X) → a ≡ None → b ≡ None → option_or a b ≡ None

@@ -4,13 +4,14 @@ use Rattle.std.proofs.Common.{sym, ap, arith, Option, None, Some}
 use Rattle.std.specs.Prelude.{if◌then◌else◌, ◌==◌}
 use Rattle.std.proofs.lemmas.Bool.{eqb-true}
 use Rattle.std.proofs.lemmas.List.{get_or-map, length-map, take_more, take_all}
-use Rattle.raw_array.specs.Members.{Buffer, ArrayMembers, bytes_in}
+use Rattle.raw_array.specs.promise.Members.{Buffer, ArrayMembers, bytes_in}
 use Rattle.raw_array.specs.declared.array.ReleaseKind.TheVariants.{Exported}
-use Rattle.data_types.specs.Value.{Value, Null, Truth}
-use Rattle.col_build.specs.Encoding.{bit_value, bit_bytes, is_null, null_total, validity_of}
-use Rattle.layout_rules.specs.Layout.{is_valid, is_valid_by}
-use Rattle.layout_rules.specs.Rules.{null_total as null_items}
-use Rattle.arr_export.specs.ArrayTrees.{made_if}
+use Rattle.data_types.specs.promise.Value.{Value, Null, Truth}
+use Rattle.col_build.specs.promise.Encoding.{bit_value, bit_bytes, null_total, validity_of}
+use Rattle.data_types.specs.promise.Value.{is_null}
+use Rattle.layout_rules.specs.promise.Layout.{is_valid, is_valid_by}
+use Rattle.layout_rules.specs.promise.Rules.{null_total as null_items}
+use Rattle.arr_export.specs.promise.ArrayTrees.{made_if}
 use Rattle.arr_export.proofs.BitBytes.{bits-of, length-bit_bytes}
 
 -- ---- the validity of each item

@@ -5,17 +5,20 @@ use Rattle.std.proofs.lemmas.List.{take_all}
 use Rattle.std.proofs.lemmas.List.Elements.{All-head, All-tail}
 use Rattle.std.specs.List.{All}
 use Rattle.buf_block.specs.declared.hold.BufView.{BufView}
-use Rattle.tree_model.specs.Tree.{Live, cost_of_maybe, depth_of_all, depth_of_maybe, maybe_tree, no_trees, trees}
+use Rattle.tree_model.specs.promise.TreeData.{Live, maybe_tree, no_trees, trees}
+use Rattle.tree_model.specs.promise.TreeCost.{cost_of_maybe}
+use Rattle.tree_model.specs.Tree.{depth_of_all, depth_of_maybe}
 use Rattle.raw_array.specs.declared.array.ReleaseKind.TheVariants.{Exported}
-use Rattle.raw_array.specs.Members.{ArrayTree, Buffer, Cost, holds, holds_of}
+use Rattle.raw_array.specs.promise.Members.{ArrayTree, Buffer, Cost, holds, holds_of}
 use Rattle.raw_array.specs.View.{buffer_of, buffer_if, buffers_of}
-use Rattle.data_types.specs.FieldText.{Form, Truths, Wholes, form_of}
-use Rattle.data_types.specs.Value.{Value}
+use Rattle.data_types.specs.promise.FieldText.{Form, Truths, Wholes, form_of}
+use Rattle.data_types.specs.promise.Value.{Value}
 use Rattle.data_types.specs.declared.kind.DataType.{DataType}
-use Rattle.col_build.specs.Encoding.{buffers_by, buffers_if, encoded, is_wide, null_total}
+use Rattle.col_build.specs.promise.Encoding.{buffers_by, buffers_if, encoded, is_wide, null_total}
 use Rattle.col_build.specs.Finished.{AreMade, IsEncoded, IsMade, IsWhole}
 use Rattle.col_build.specs.declared.column.FinishedColumn.{FinishedColumn}
-use Rattle.arr_export.specs.ArrayTrees.{AreIndicesIf, IsColumn, column_tree, made, made_buffers, made_if}
+use Rattle.arr_export.specs.promise.ArrayTrees.{column_tree, made, made_buffers, made_if}
+use Rattle.arr_export.specs.ArrayTrees.{AreIndicesIf, IsColumn}
 
 -- ---- finished buffers
 whole-of : (view : BufView) (content : List ℕ) → IsWhole view content → buffer_of view ≡ made content

@@ -5,7 +5,7 @@ use Rattle.std.proofs.lemmas.List.Elements.{All-head, All-tail}
 use Rattle.std.proofs.lemmas.Nat.{pow-add}
 use Rattle.std.proofs.Math.Seq.{drop-append-add}
 use Rattle.std.specs.List.{All, flat_map}
-use Rattle.data_types.specs.Packed.{le_bytes, le_number, number_at}
+use Rattle.data_types.specs.promise.Packed.{le_bytes, le_number, number_at}
 
 module _ {X : Type 0} (f : X → List ℕ) (width : ℕ) where
   pub length-pieces : (xs : List X) → All (λ x. length (f x) ≡ width) xs → length (flat_map f xs) ≡ length xs * width

@@ -2,15 +2,17 @@
 use Rattle.std.proofs.Common.{◌≡◌, ◌∙◌, ℕ, zero, suc, List, [], ◌∷◌, map, Some, refl, ap, subst, rules, arith}
 use Rattle.std.specs.declared.vec.Vec.{Vec}
 use Rattle.std.specs.declared.alloc.Global.{Global}
-use Rattle.data_types.specs.ColumnView.{column_of, kind_of, members}
-use Rattle.data_types.specs.Table.{Column, Kind, Columns as StructOf}
+use Rattle.data_types.specs.promise.ColumnView.{members}
+use Rattle.data_types.specs.ColumnView.{column_of, kind_of}
+use Rattle.data_types.specs.promise.Table.{Column, Kind, Columns as StructOf}
 use Rattle.data_types.specs.declared.kind.ColKind.{Columns}
 use Rattle.data_types.specs.declared.kind.ColKind.TheViews.{the_lemmas}
 use Rattle.data_types.specs.declared.kind.ColumnType.{ColumnType}
 use Rattle.data_types.proofs.StructColumns.{row_is}
-use Rattle.tree_model.specs.Tree.{Trees, absent, more_trees, trees}
-use Rattle.raw_schema.specs.Members.{SchemaMembers}
-use Rattle.schema_check.specs.ColumnSchema.{KindsOk, MembersOk, column_schema, member_schemas, node, nullable, schema_of_column, struct_format}
+use Rattle.tree_model.specs.promise.TreeData.{Trees, absent, more_trees, trees}
+use Rattle.raw_schema.specs.promise.Members.{SchemaMembers}
+use Rattle.schema_check.specs.promise.ColumnSchema.{column_schema, member_schemas, node, nullable, schema_of_column, struct_format}
+use Rattle.schema_check.specs.ColumnSchema.{KindsOk, MembersOk}
 use Rattle.arr_export.specs.CodeSchema.{ColumnsOk, code_schemas}
 use Rattle.arr_export.proofs.Costs.{schemas-mapped}
 

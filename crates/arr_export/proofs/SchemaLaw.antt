@@ -1,17 +1,18 @@
 -- The schema of columns meets the rules, and names their types.
 use Rattle.std.proofs.Common.{◌≤◌, ◌+◌, ℕ, suc, true, List, [], ◌∷◌, Option, None, Some, All, map, refl, inl, inr, arith}
-use Rattle.data_types.specs.FieldText.{form_of}
-use Rattle.fmt_string.specs.FormatString.{FormatIs}
+use Rattle.data_types.specs.promise.FieldText.{form_of}
+use Rattle.fmt_string.specs.promise.FormatString.{FormatIs}
 use Rattle.data_types.specs.Kinds.{KindOk}
-use Rattle.fmt_string.specs.Spelling.{spelling_of}
-use Rattle.data_types.specs.Table.{Column, Kind, Flat, Dict, Columns, Members, no_members, more_members}
+use Rattle.fmt_string.specs.promise.Spelling.{spelling_of}
+use Rattle.data_types.specs.promise.Table.{Column, Kind, Flat, Dict, Columns, Members, no_members, more_members}
 use Rattle.data_types.specs.declared.kind.DataType.{DataType}
 use Rattle.data_types.specs.declared.kind.DataType.TheVariants as kinds
-use Rattle.tree_model.specs.Tree.{Live, no_trees, absent, trees, Depth, depth_of_all}
+use Rattle.tree_model.specs.promise.TreeData.{Live, no_trees, absent, trees}
+use Rattle.tree_model.specs.Tree.{Depth, depth_of_all}
 use Rattle.col_build.specs.Encoding.{HasForm}
-use Rattle.schema_check.specs.Schemas.{ChildrenFit, MapFits, TypedFrom, KidsTyped, TypedOf}
-use Rattle.schema_check.specs.ColumnSchema.{SchemaOf, column_schema, member_schemas, schema_of_column, values_schema}
-use Rattle.data_types.specs.ColumnKinds.{type_of_columns, type_of_kind, types_of_columns, types_of_members}
+use Rattle.schema_check.specs.promise.Schemas.{ChildrenFit, MapFits, TypedFrom, KidsTyped, TypedOf}
+use Rattle.schema_check.specs.promise.ColumnSchema.{SchemaOf, column_schema, member_schemas, schema_of_column, values_schema}
+use Rattle.data_types.specs.promise.ColumnKinds.{type_of_columns, type_of_kind, types_of_columns, types_of_members}
 use Rattle.data_types.specs.ColumnForms.{AreColumnKinds, IsColumnKind, MembersAreColumns}
 
 -- ---- the schema of a column

@@ -1,9 +1,11 @@
 -- The structures and the levels of the schema of columns.
 use Rattle.std.proofs.Common.{◌≡◌, ◌+◌, ◌≤◌, ℕ, zero, suc, List, [], ◌∷◌, length, map, ap, arith}
-use Rattle.data_types.specs.Table.{Column, Kind, Flat, Dict, Columns, Members, no_members, more_members}
-use Rattle.tree_model.specs.Tree.{Depth, depth_of_all, trees}
-use Rattle.raw_schema.specs.Members.{Nodes, nodes_of_all}
-use Rattle.schema_check.specs.ColumnSchema.{SchemaOf, column_schema, member_schemas, schema_of_column}
+use Rattle.data_types.specs.promise.Table.{Column, Kind, Flat, Dict, Columns, Members, no_members, more_members}
+use Rattle.tree_model.specs.promise.TreeData.{trees}
+use Rattle.tree_model.specs.Tree.{Depth, depth_of_all}
+use Rattle.tree_model.specs.promise.TreeCost.{Nodes}
+use Rattle.raw_schema.specs.Members.{nodes_of_all}
+use Rattle.schema_check.specs.promise.ColumnSchema.{SchemaOf, column_schema, member_schemas, schema_of_column}
 use Rattle.arr_export.specs.SchemaSize.{AreFlat, nodes_of_columns, nodes_of_kind, nodes_of_members}
 
 mutual

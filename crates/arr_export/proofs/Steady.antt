@@ -1,13 +1,13 @@
 -- Whether a tree passes does not depend on the steps that lead to it.
 use Rattle.std.proofs.Common.{◌≡◌, ℕ, suc, List, [], ◌∷◌, ◌++◌, refl, Option, None, Some}
-use Rattle.tree_model.specs.Tree.{Released, Live, Trees, no_trees, more_trees, MaybeTree, absent, present, tree_list, option_tree}
-use Rattle.raw_array.specs.Members.{ArrayTree}
+use Rattle.tree_model.specs.promise.TreeData.{Released, Live, Trees, no_trees, more_trees, MaybeTree, absent, present, tree_list, option_tree}
+use Rattle.raw_array.specs.promise.Members.{ArrayTree}
 use Rattle.data_types.specs.declared.kind.DataType.{DataType}
-use Rattle.data_types.specs.KindTrees.{KindTree}
-use Rattle.layout_rules.specs.Rules.{Node, fails, in_order}
-use Rattle.data_types.specs.Ways.{Steps, dictionary_step}
-use Rattle.layout_rules.specs.Walk.{Walk, fault_at, fault_by, first_some, node_fault, node_of, visit_fault, visits, walk_below}
-use Rattle.layout_rules.specs.Walk.{walk_children, walk_dictionary, walk_of, walks_of}
+use Rattle.data_types.specs.promise.KindTrees.{KindTree}
+use Rattle.layout_rules.specs.promise.Rules.{Node, fails, in_order}
+use Rattle.data_types.specs.promise.Ways.{Steps, dictionary_step}
+use Rattle.layout_rules.specs.promise.Walk.{Walk, fault_at, fault_by, first_some, node_fault, node_of, visit_fault, visits, walk_below}
+use Rattle.layout_rules.specs.promise.Walk.{walk_children, walk_dictionary, walk_of, walks_of}
 use Rattle.layout_rules.specs.declared.rule.LayoutRule.{LayoutRule}
 use Rattle.layout_rules.specs.declared.rule.Numbers.{Numbers}
 use Rattle.layout_rules.proofs.Lawful.{left-none, right-none}

@@ -6,24 +6,26 @@ use Rattle.std.specs.Ordering.{int_eq}
 use Rattle.std.specs.List.{All}
 use Rattle.std.proofs.lemmas.Bool.{eq-eqb, le-ltb}
 use Rattle.std.proofs.lemmas.List.Elements.{All-head, All-tail}
-use Rattle.tree_model.specs.Tree.{IsLive, Released, Live, absent, trees, tree_list}
+use Rattle.tree_model.specs.promise.TreeParts.{IsLive}
+use Rattle.tree_model.specs.promise.TreeData.{Released, Live, absent, trees, tree_list}
 use Rattle.tree_model.proofs.Lists.{tree_list-trees}
-use Rattle.raw_array.specs.Members.{ArrayTree}
-use Rattle.data_types.specs.Value.{Value, Null}
+use Rattle.raw_array.specs.promise.Members.{ArrayTree}
+use Rattle.data_types.specs.promise.Value.{Value, Null}
 use Rattle.data_types.specs.declared.kind.DataType.TheVariants as kinds
-use Rattle.data_types.specs.KindTrees.{KindTree}
-use Rattle.layout_rules.specs.Layout.{natural}
-use Rattle.layout_rules.specs.Rules.{Node, child_short, fault_if, in_order, is_negative, live_length, null_total, short_child}
-use Rattle.layout_rules.specs.Values.{field_items, readers, row_items, rows_of, tree_items, value_at}
-use Rattle.data_types.specs.Ways.{Steps}
-use Rattle.layout_rules.specs.Walk.{ChunkOk, LayoutOk, fault_at, first_some, node_fault, node_of, top_fault, visit_fault, visits, walk_below}
-use Rattle.layout_rules.specs.Walk.{walk_children, walk_of, walks_of}
+use Rattle.data_types.specs.promise.KindTrees.{KindTree}
+use Rattle.layout_rules.specs.promise.Layout.{natural}
+use Rattle.layout_rules.specs.promise.Rules.{Node, child_short, fault_if, in_order, is_negative, live_length, null_total, short_child}
+use Rattle.layout_rules.specs.promise.Values.{field_items, readers, row_items, rows_of, tree_items, value_at}
+use Rattle.data_types.specs.promise.Ways.{Steps}
+use Rattle.layout_rules.specs.promise.Walk.{ChunkOk, LayoutOk, fault_at, first_some, node_fault, node_of, top_fault, visit_fault, visits, walk_below}
+use Rattle.layout_rules.specs.promise.Walk.{walk_children, walk_of, walks_of}
 use Rattle.layout_rules.specs.declared.rule.LayoutRule.TheVariants as rules
 use Rattle.layout_rules.specs.declared.rule.Numbers.{Numbers}
 use Rattle.layout_rules.proofs.Lawful.{first_fault-lawful, lawful-first_fault, left-none}
 use Rattle.layout_rules.proofs.NamedRules.{AreMet, none-fails}
-use Rattle.data_types.specs.ColumnKinds.{table_type}
-use Rattle.arr_export.specs.ArrayTrees.{AreLawful, HaveValues, rows_of_columns, rows_of_values, table_members, table_tree}
+use Rattle.data_types.specs.promise.ColumnKinds.{table_type}
+use Rattle.arr_export.specs.promise.ArrayTrees.{table_members, table_tree}
+use Rattle.arr_export.specs.ArrayTrees.{AreLawful, HaveValues, rows_of_columns, rows_of_values}
 use Rattle.arr_export.proofs.Each.{each-same, length-each, value-there}
 use Rattle.arr_export.proofs.NodeRules.{both-none, no-fault}
 use Rattle.arr_export.proofs.Steady.{first_some-append, steady}

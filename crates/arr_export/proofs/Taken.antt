@@ -5,11 +5,14 @@ use Rattle.std.specs.Prelude.{if◌then◌else◌, ◌==◌}
 use Rattle.std.proofs.lemmas.Bool.{and_parts, eqb-true, false≢true, ltb-true, true≢false}
 use Rattle.std.proofs.lemmas.List.{length-replicate}
 use Rattle.std.proofs.lemmas.Nat.{pow-add}
-use Rattle.data_types.specs.Packed.{IsWidth, le_bytes, meant, stored}
+use Rattle.data_types.specs.promise.Packed.{le_bytes, meant, stored}
+use Rattle.data_types.specs.Packed.{IsWidth}
 use Rattle.bit_pack.proofs.NumberFacts.{meant_back}
-use Rattle.data_types.specs.FieldText.{Form, Truths, Wholes, FloatBits, Text, HexBytes, SizedHex, Decimals, in_range}
-use Rattle.data_types.specs.Value.{Value, Null, Truth, Whole, Bits, Bytes}
-use Rattle.col_build.specs.Encoding.{bit_value, bytes_of, byte_total, fault_if, is_form, is_null, is_set, is_storable, is_text, is_within, stored_item}
+use Rattle.data_types.specs.promise.FieldText.{Form, Truths, Wholes, FloatBits, Text, HexBytes, SizedHex, Decimals, in_range}
+use Rattle.data_types.specs.promise.Value.{Value, Null, Truth, Whole, Bits, Bytes}
+use Rattle.col_build.specs.promise.Encoding.{bit_value, is_set, is_within, stored_item}
+use Rattle.data_types.specs.promise.Value.{bytes_of, byte_total, is_null}
+use Rattle.col_build.specs.Encoding.{fault_if, is_form, is_storable, is_text}
 use Rattle.col_build.specs.declared.item.PushFault.{PushFault}
 use Rattle.col_build.specs.declared.item.PushFault.TheVariants.{WrongKind, OutOfRange, NotText}
 use Rattle.arr_export.proofs.Nulls.{flag-back}

@@ -3,13 +3,15 @@ use Rattle.std.proofs.Common.{◌≡◌, ◌∙◌, ℕ, ◌^◌, ◌≤◌, Lis
 use Rattle.std.specs.List.{All}
 use Rattle.std.proofs.lemmas.List.{length-map}
 use Rattle.std.proofs.lemmas.List.Elements.{All-head, All-map, All-tail, All-weaker}
-use Rattle.data_types.specs.Value.{Value}
-use Rattle.layout_rules.specs.Values.{rows_of, tree_items, values_of}
-use Rattle.layout_rules.specs.Walk.{ChunkOk, LayoutOk}
+use Rattle.data_types.specs.promise.Value.{Value}
+use Rattle.layout_rules.specs.promise.Values.{rows_of, tree_items, values_of}
+use Rattle.layout_rules.specs.promise.Walk.{ChunkOk, LayoutOk}
 use Rattle.col_build.specs.Encoding.{Fits}
-use Rattle.data_types.specs.ColumnKinds.{table_type}
-use Rattle.arr_export.specs.ArrayTrees.{AreIndices, AreLawful, HaveValues, looked_up, rows_of_values, table_tree}
-use Rattle.arr_export.specs.ValueColumns.{HasEntries, IsValueColumn, TypedValues, ValueColumn, items_of, plain_tree, plain_type, tree_of, type_of, values_by}
+use Rattle.data_types.specs.promise.ColumnKinds.{table_type}
+use Rattle.arr_export.specs.promise.ArrayTrees.{table_tree}
+use Rattle.arr_export.specs.ArrayTrees.{AreIndices, AreLawful, HaveValues, looked_up, rows_of_values}
+use Rattle.arr_export.specs.promise.ValueColumns.{TypedValues, ValueColumn}
+use Rattle.arr_export.specs.ValueColumns.{HasEntries, IsValueColumn, items_of, plain_tree, plain_type, tree_of, type_of, values_by}
 use Rattle.arr_export.proofs.ColumnLaw.{column-lawful, column-values}
 use Rattle.arr_export.proofs.IndexLaw.{indices-lawful, indices-values}
 use Rattle.arr_export.proofs.TableLaw.{table-chunk, table-values}

@@ -3,44 +3,20 @@
 use Rattle.std.specs.Prelude.{◌≡◌, ◌≤◌, ◌<◌, ℕ, pos, List, [], ◌∷◌, map, get_or, Option, None, Some, All}
 use Rattle.data_types.specs.declared.kind.DataType.{DataType}
 use Rattle.data_types.specs.declared.kind.DataType.TheVariants as kinds
-use Rattle.data_types.specs.Table.{Row}
-use Rattle.data_types.specs.Value.{Value, Null, Whole}
-use Rattle.tree_model.specs.Tree.{Live, no_trees, trees, absent, maybe_tree, IsLive, Depth}
-use Rattle.raw_array.specs.Members.{Buffer, ArrayMembers, ArrayTree, whole}
-use Rattle.raw_array.specs.declared.array.ReleaseKind.TheVariants.{Exported, Assembled}
-use Rattle.col_build.specs.Encoding.{Fits, encoded}
+use Rattle.data_types.specs.promise.Table.{Row}
+use Rattle.data_types.specs.promise.Value.{Value, Null, Whole}
+use Rattle.tree_model.specs.promise.TreeData.{Live, no_trees, maybe_tree}
+use Rattle.tree_model.specs.promise.TreeParts.{IsLive}
+use Rattle.tree_model.specs.Tree.{Depth}
+use Rattle.raw_array.specs.promise.Members.{ArrayTree}
+use Rattle.col_build.specs.Encoding.{Fits}
 use Rattle.col_build.specs.Finished.{IsEncoded}
 use Rattle.col_build.specs.declared.column.FinishedColumn.{FinishedColumn}
-use Rattle.data_types.specs.KindTrees.{KindTree}
-use Rattle.layout_rules.specs.Values.{each, field_items, tree_items, value_at, values_of}
-use Rattle.layout_rules.specs.Walk.{LayoutOk}
+use Rattle.data_types.specs.promise.KindTrees.{KindTree}
+use Rattle.layout_rules.specs.promise.Values.{each, field_items, tree_items, value_at, values_of}
+use Rattle.layout_rules.specs.promise.Walk.{LayoutOk}
 
 -- ---- a column
-
--- a buffer that is the whole of a new block
-abbrev pub made : List ℕ → Buffer
-made bytes = record { bytes = bytes; amount = whole }
-
-abbrev pub made_if : Option (List ℕ) → Option Buffer
-made_if None = None
-made_if (Some bytes) = Some (made bytes)
-
-abbrev pub made_buffers : List (Option (List ℕ)) → List (Option Buffer)
-made_buffers [] = []
-made_buffers (bytes ∷ buffers) = made_if bytes ∷ made_buffers buffers
-
--- the encoding of the values, from its first item on
-abbrev pub column_members : DataType → List Value → ArrayMembers
-column_members kind values = record {
-  length = pos (encoded kind values).length;
-  null_count = pos (encoded kind values).null_count;
-  offset = pos 0;
-  buffers = made_buffers (encoded kind values).buffers;
-  kind = Exported;
-}
-
-abbrev pub column_tree : DataType → List Value → Option ArrayTree → ArrayTree
-column_tree kind values dictionary = Live (column_members kind values) no_trees (maybe_tree dictionary)
 
 -- the type of a column
 abbrev pub flat_type : DataType → Option KindTree → KindTree
@@ -81,13 +57,6 @@ looked_up entries (Whole (pos place)) = get_or entries place Null
 looked_up entries _ = Null
 
 -- ---- a table
-
--- a struct with as many items as there are rows, none of them null
-abbrev pub table_members : ℕ → ArrayMembers
-table_members rows = record { length = pos rows; null_count = pos 0; offset = pos 0; buffers = None ∷ []; kind = Assembled }
-
-abbrev pub table_tree : ℕ → List ArrayTree → ArrayTree
-table_tree rows columns = Live (table_members rows) (trees columns) absent
 
 -- a column that a table of this many rows may have
 pub record IsColumn (rows : ℕ) (column : ArrayTree) : Type 0 where

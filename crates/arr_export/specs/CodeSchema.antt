@@ -2,9 +2,10 @@
 use Rattle.std.specs.Prelude.{List, map, All}
 use Rattle.data_types.specs.declared.kind.ColumnType.{ColumnType}
 use Rattle.data_types.specs.ColumnView.{kind_of}
-use Rattle.tree_model.specs.Tree.{Trees, trees}
-use Rattle.raw_schema.specs.Members.{SchemaMembers, SchemaTree}
-use Rattle.schema_check.specs.ColumnSchema.{KindsOk, column_schema}
+use Rattle.tree_model.specs.promise.TreeData.{Trees, trees}
+use Rattle.raw_schema.specs.promise.Members.{SchemaMembers, SchemaTree}
+use Rattle.schema_check.specs.promise.ColumnSchema.{column_schema}
+use Rattle.schema_check.specs.ColumnSchema.{KindsOk}
 
 abbrev pub code_schema : ColumnType → SchemaTree
 code_schema c = column_schema c.name (kind_of c.kind)

@@ -1,3 +1,4 @@
+pub mod promise
 pub mod CodeSchema
 pub mod SchemaSize
 pub mod ArrayTrees

@@ -1,22 +1,13 @@
 -- Columns that are made of values, with their types and their trees.
 use Rattle.std.specs.Prelude.{ℕ, ◌≤◌, List, length, map, Option, None, Some, All}
 use Rattle.std.specs.Option.{option_map}
-use Rattle.data_types.specs.declared.kind.DataType.{DataType}
-use Rattle.data_types.specs.Value.{Value}
-use Rattle.raw_array.specs.Members.{ArrayTree}
+use Rattle.data_types.specs.promise.Value.{Value}
+use Rattle.raw_array.specs.promise.Members.{ArrayTree}
 use Rattle.col_build.specs.Encoding.{Fits}
-use Rattle.data_types.specs.KindTrees.{KindTree}
-use Rattle.arr_export.specs.ArrayTrees.{IsIndexKind, IsPlaceOf, column_tree, flat_type, looked_up}
-
--- a type, and values of it
-pub record TypedValues : Type 0 where
-  pub kind : DataType
-  pub values : List Value
-
--- a column of values, or of indices into a dictionary of values
-pub record ValueColumn : Type 0 where
-  pub own : TypedValues
-  pub dictionary : Option TypedValues
+use Rattle.data_types.specs.promise.KindTrees.{KindTree}
+use Rattle.arr_export.specs.promise.ArrayTrees.{column_tree}
+use Rattle.arr_export.specs.ArrayTrees.{IsIndexKind, IsPlaceOf, flat_type, looked_up}
+use Rattle.arr_export.specs.promise.ValueColumns.{TypedValues, ValueColumn}
 
 abbrev pub plain_type : TypedValues → KindTree
 plain_type t = flat_type t.kind None

@@ -1,13 +1,15 @@
 //! The array of a column.
 ghost use Rattle.std.specs.Prelude.{◌≡◌, ◌+◌, ◌≤◌, List, if◌then◌else◌, count_by, is_ok, is_some, IfOk, IfErr};
-ghost use Rattle.unit_pass.specs.Tally.{risen};
+ghost use Rattle.unit_pass.specs.promise.Tally.{risen};
 ghost use Rattle.unit_pass.specs.declared.pass.TheConstants.{SUPPLY};
-ghost use Rattle.data_types.specs.Value.{Value};
+ghost use Rattle.data_types.specs.promise.Value.{Value};
 ghost use Rattle.data_types.specs.declared.kind.DataType.{DataType};
-ghost use Rattle.tree_model.specs.Tree.{maybe_tree};
-ghost use Rattle.raw_array.specs.Members.{Cost, cost_of_maybe};
+ghost use Rattle.tree_model.specs.promise.TreeData.{maybe_tree};
+ghost use Rattle.raw_array.specs.promise.Members.{Cost};
+ghost use Rattle.raw_array.specs.Members.{cost_of_maybe};
 ghost use Rattle.col_build.specs.Finished.{IsEncoded};
-ghost use Rattle.arr_export.specs.ArrayTrees.{HasValues, column_tree};
+ghost use Rattle.arr_export.specs.promise.ArrayTrees.{column_tree};
+ghost use Rattle.arr_export.specs.ArrayTrees.{HasValues};
 
 use buf_block::let_go_all;
 use col_build::FinishedColumn;

@@ -1,13 +1,16 @@
 //! The schemas of columns.
 ghost use Rattle.std.specs.Prelude.{◌≡◌, ◌+◌, ◌-◌, ◌^◌, ◌<◌, ◌≤◌, length, map, if◌then◌else◌, is_ok, None, IfOk, OnOk};
-ghost use Rattle.unit_pass.specs.Tally.{risen};
+ghost use Rattle.unit_pass.specs.promise.Tally.{risen};
 ghost use Rattle.unit_pass.specs.declared.pass.TheConstants.{CHUNK};
 ghost use Rattle.data_types.specs.ColumnView.{kind_of};
 ghost use Rattle.data_types.specs.Kinds.{KindOk};
-ghost use Rattle.data_types.specs.Table.{Dict};
-ghost use Rattle.tree_model.specs.Tree.{Depth, depth_of_all, absent};
-ghost use Rattle.raw_schema.specs.Members.{Nodes, nodes_of_all};
-ghost use Rattle.schema_check.specs.ColumnSchema.{KindsOk, column_schema, node, struct_format, values_schema};
+ghost use Rattle.data_types.specs.promise.Table.{Dict};
+ghost use Rattle.tree_model.specs.promise.TreeData.{absent};
+ghost use Rattle.tree_model.specs.Tree.{Depth, depth_of_all};
+ghost use Rattle.tree_model.specs.promise.TreeCost.{Nodes};
+ghost use Rattle.raw_schema.specs.Members.{nodes_of_all};
+ghost use Rattle.schema_check.specs.promise.ColumnSchema.{column_schema, node, struct_format, values_schema};
+ghost use Rattle.schema_check.specs.ColumnSchema.{KindsOk};
 ghost use Rattle.arr_export.specs.CodeSchema.{ColumnsOk, code_schema, code_schemas};
 
 use data_types::{ColKind, ColumnType, DataType};

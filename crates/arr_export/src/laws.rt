@@ -1,17 +1,19 @@
 //! What the trees that are handed out mean.
 ghost use Rattle.std.specs.Prelude.{◌≡◌, ◌≤◌, ℕ, List, map, length, None, Some, All};
-ghost use Rattle.data_types.specs.Value.{Value};
+ghost use Rattle.data_types.specs.promise.Value.{Value};
 ghost use Rattle.data_types.specs.declared.kind.DataType.{DataType};
-ghost use Rattle.raw_array.specs.Members.{ArrayTree};
+ghost use Rattle.raw_array.specs.promise.Members.{ArrayTree};
 ghost use Rattle.col_build.specs.Encoding.{Fits};
-ghost use Rattle.data_types.specs.KindTrees.{KindTree};
-ghost use Rattle.layout_rules.specs.Values.{rows_of, tree_items, values_of};
-ghost use Rattle.layout_rules.specs.Walk.{ChunkOk, LayoutOk};
-ghost use Rattle.data_types.specs.ColumnKinds.{table_type};
-ghost use Rattle.arr_export.specs.ArrayTrees.{AreIndices, AreLawful, HaveValues, column_tree, flat_type, looked_up, rows_of_columns, rows_of_values};
-ghost use Rattle.arr_export.specs.ArrayTrees.{table_tree};
-ghost use Rattle.arr_export.specs.ValueColumns.{IsValueColumn, ValueColumn, items_of, tree_of, type_of};
-ghost use Rattle.layout_rules.specs.Rules.{window_limit};
+ghost use Rattle.data_types.specs.promise.KindTrees.{KindTree};
+ghost use Rattle.layout_rules.specs.promise.Values.{rows_of, tree_items, values_of};
+ghost use Rattle.layout_rules.specs.promise.Walk.{ChunkOk, LayoutOk};
+ghost use Rattle.data_types.specs.promise.ColumnKinds.{table_type};
+ghost use Rattle.arr_export.specs.promise.ArrayTrees.{column_tree};
+ghost use Rattle.arr_export.specs.ArrayTrees.{AreIndices, AreLawful, HaveValues, flat_type, looked_up, rows_of_columns, rows_of_values};
+ghost use Rattle.arr_export.specs.promise.ArrayTrees.{table_tree};
+ghost use Rattle.arr_export.specs.promise.ValueColumns.{ValueColumn};
+ghost use Rattle.arr_export.specs.ValueColumns.{IsValueColumn, items_of, tree_of, type_of};
+ghost use Rattle.layout_rules.specs.promise.Rules.{window_limit};
 
 /// A law: a column's tree meets the layout rules, and its items are the values that it was made of ("Arrow Columnar
 /// Format", "Physical memory layout").

@@ -1,12 +1,13 @@
 //! The schema of a table.
 ghost use Rattle.std.specs.Prelude.{◌≡◌, ◌+◌, ◌≤◌, All, map, if◌then◌else◌, is_ok, IfOk, OnOk};
-ghost use Rattle.data_types.specs.KindTrees.{most_levels};
-ghost use Rattle.unit_pass.specs.Tally.{risen};
+ghost use Rattle.data_types.specs.promise.KindTrees.{most_levels};
+ghost use Rattle.unit_pass.specs.promise.Tally.{risen};
 ghost use Rattle.unit_pass.specs.declared.pass.TheConstants.{CHUNK};
 ghost use Rattle.data_types.specs.ColumnView.{column_of};
 ghost use Rattle.tree_model.specs.Tree.{Depth};
-ghost use Rattle.raw_schema.specs.Members.{Nodes};
-ghost use Rattle.schema_check.specs.ColumnSchema.{KindsOk, SchemaOf};
+ghost use Rattle.tree_model.specs.promise.TreeCost.{Nodes};
+ghost use Rattle.schema_check.specs.promise.ColumnSchema.{SchemaOf};
+ghost use Rattle.schema_check.specs.ColumnSchema.{KindsOk};
 
 use crate::columns::struct_schema;
 use data_types::ColumnType;

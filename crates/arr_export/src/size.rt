@@ -1,9 +1,9 @@
 //! The size of a schema.
 ghost use Rattle.std.specs.Prelude.{◌≡◌, ◌+◌, ◌≤◌, List, length};
-ghost use Rattle.data_types.specs.Table.{Column};
+ghost use Rattle.data_types.specs.promise.Table.{Column};
 ghost use Rattle.tree_model.specs.Tree.{Depth};
-ghost use Rattle.raw_schema.specs.Members.{Nodes};
-ghost use Rattle.schema_check.specs.ColumnSchema.{SchemaOf};
+ghost use Rattle.tree_model.specs.promise.TreeCost.{Nodes};
+ghost use Rattle.schema_check.specs.promise.ColumnSchema.{SchemaOf};
 ghost use Rattle.arr_export.specs.SchemaSize.{AreFlat, nodes_of_columns};
 
 /// A law: how many structures the schema of columns has, and that one of plain values has a structure a column and two

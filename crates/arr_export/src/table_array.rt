@@ -1,11 +1,13 @@
 //! The array of a table.
 ghost use Rattle.std.specs.Prelude.{◌≡◌, ◌+◌, ◌-◌, ◌^◌, ◌<◌, ◌≤◌, ◌≤ℤ◌, pos, [], ◌∷◌, length, None, All, if◌then◌else◌, is_ok, IfOk, IfErr};
-ghost use Rattle.unit_pass.specs.Tally.{risen};
-ghost use Rattle.tree_model.specs.Tree.{trees};
-ghost use Rattle.raw_array.specs.Members.{Cost, cost_of_all};
-ghost use Rattle.layout_rules.specs.Layout.{natural};
-ghost use Rattle.arr_export.specs.ArrayTrees.{IsColumn, table_tree};
-ghost use Rattle.layout_rules.specs.Rules.{window_limit};
+ghost use Rattle.unit_pass.specs.promise.Tally.{risen};
+ghost use Rattle.tree_model.specs.promise.TreeData.{trees};
+ghost use Rattle.raw_array.specs.promise.Members.{Cost};
+ghost use Rattle.raw_array.specs.Members.{cost_of_all};
+ghost use Rattle.layout_rules.specs.promise.Layout.{natural};
+ghost use Rattle.arr_export.specs.promise.ArrayTrees.{table_tree};
+ghost use Rattle.arr_export.specs.ArrayTrees.{IsColumn};
+ghost use Rattle.layout_rules.specs.promise.Rules.{window_limit};
 
 use buf_block::BufView;
 use raw_array::{ArrayParts, RawArray, ReleaseKind};

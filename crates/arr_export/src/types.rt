@@ -1,12 +1,12 @@
 //! The types that the schema of columns names.
 ghost use Rattle.std.specs.Prelude.{◌≤◌, List, All};
-ghost use Rattle.data_types.specs.KindTrees.{most_levels};
-ghost use Rattle.data_types.specs.Table.{Column};
+ghost use Rattle.data_types.specs.promise.KindTrees.{most_levels};
+ghost use Rattle.data_types.specs.promise.Table.{Column};
 ghost use Rattle.tree_model.specs.Tree.{Depth};
-ghost use Rattle.schema_check.specs.Schemas.{TypedOf};
-ghost use Rattle.data_types.specs.ColumnKinds.{type_of_columns};
+ghost use Rattle.schema_check.specs.promise.Schemas.{TypedOf};
+ghost use Rattle.data_types.specs.promise.ColumnKinds.{type_of_columns};
 ghost use Rattle.data_types.specs.ColumnForms.{AreColumnKinds};
-ghost use Rattle.schema_check.specs.ColumnSchema.{SchemaOf};
+ghost use Rattle.schema_check.specs.promise.ColumnSchema.{SchemaOf};
 
 use fmt_string::spelling_reads_back;
 

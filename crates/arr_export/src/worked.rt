@@ -1,10 +1,11 @@
 //! Trees and rows on which the definitions are computed.
 ghost use Rattle.std.specs.Prelude.{◌≡◌, pos, negsuc, true, false, [], ◌∷◌, map, None, Some, codes};
 ghost use Rattle.data_types.specs.declared.kind.DataType.TheVariants.{Int, Utf8};
-ghost use Rattle.data_types.specs.Value.{Null, Whole, Bytes};
-ghost use Rattle.tree_model.specs.Tree.{Live, absent, no_trees, more_trees};
+ghost use Rattle.data_types.specs.promise.Value.{Null, Whole, Bytes};
+ghost use Rattle.tree_model.specs.promise.TreeData.{Live, absent, no_trees, more_trees};
 ghost use Rattle.raw_array.specs.declared.array.ReleaseKind.TheVariants.{Assembled, Exported};
-ghost use Rattle.arr_export.specs.ArrayTrees.{column_tree, looked_up, rows_of_values, table_tree};
+ghost use Rattle.arr_export.specs.promise.ArrayTrees.{column_tree, table_tree};
+ghost use Rattle.arr_export.specs.ArrayTrees.{looked_up, rows_of_values};
 
 /// A column of numbers with a null, one of no texts, a table of one row over it, what indices look up, and the rows of two
 /// columns of which the second is longer.

@@ -3,12 +3,14 @@ use Rattle.std.proofs.Common.{◌≡◌, ℕ, ◌+◌, ◌<◌, ◌^◌, List, O
 use Rattle.std.specs.Prelude.{if◌then◌else◌}
 use Rattle.data_types.specs.declared.storage.Storage.{Storage}
 use Rattle.data_types.specs.declared.storage.Storage.TheVariants as storages
-use Rattle.data_types.specs.Value.Value.{Null}
-use Rattle.tree_model.specs.Tree.{children_of, trees}
-use Rattle.raw_array.specs.Members.{ArrayMembers, ArrayTree, members_of}
-use Rattle.layout_rules.specs.Layout.{IsLong, buffer, bytes, first, is_valid, is_valid_by}
+use Rattle.data_types.specs.promise.Value.Value.{Null}
+use Rattle.tree_model.specs.promise.TreeParts.{children_of}
+use Rattle.tree_model.specs.promise.TreeData.{trees}
+use Rattle.raw_array.specs.promise.Members.{ArrayMembers, ArrayTree, members_of}
+use Rattle.layout_rules.specs.promise.Layout.{buffer, bytes, first, is_valid, is_valid_by}
+use Rattle.layout_rules.specs.Layout.{IsLong}
 use Rattle.data_types.specs.TypedView.{kids_of}
-use Rattle.layout_rules.specs.Values.{Reader, readers}
+use Rattle.layout_rules.specs.promise.Values.{Reader, readers}
 use Rattle.arr_import.specs.declared.col.Col.{Col}
 use Rattle.arr_import.specs.declared.plain.Plain.{Plain}
 use Rattle.arr_import.specs.Lent.{lent_bytes}

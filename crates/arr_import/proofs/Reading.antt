@@ -13,18 +13,22 @@ use Rattle.data_types.specs.declared.kind.DataType.TheVariants as kinds
 use Rattle.data_types.specs.declared.kind.Tick.{Tick}
 use Rattle.data_types.specs.declared.kind.Tick.TheVariants as ticks
 use Rattle.data_types.specs.Kinds.{KindOk}
-use Rattle.data_types.specs.Storage.{storage_of}
-use Rattle.data_types.specs.Value.{values}
-use Rattle.data_types.specs.Value.Value.{Null, Fields}
+use Rattle.data_types.specs.promise.Storage.{storage_of}
+use Rattle.data_types.specs.promise.Value.{values}
+use Rattle.data_types.specs.promise.Value.Value.{Null, Fields}
 use Rattle.data_types.specs.Packed.{IsWidth}
-use Rattle.tree_model.specs.Tree.{Released, Live, IsLive, absent, present, trees, maybe_tree, tree_list, children_of, child_at, dictionary_of, Depth}
-use Rattle.raw_array.specs.Members.{ArrayMembers, ArrayTree, members_of}
+use Rattle.tree_model.specs.promise.TreeData.{Released, Live, absent, present, trees, maybe_tree, tree_list}
+use Rattle.tree_model.specs.promise.TreeParts.{IsLive, children_of, child_at, dictionary_of}
+use Rattle.tree_model.specs.Tree.{Depth}
+use Rattle.raw_array.specs.promise.Members.{ArrayMembers, ArrayTree, members_of}
 use Rattle.data_types.specs.declared.typed.Typed.{Typed, out-Typed}
 use Rattle.layout_rules.specs.declared.layout.Layout.TheVariants.{ByChildren}
-use Rattle.data_types.specs.KindTrees.{KindTree, NodesOk, AllNodesOk, DictNodesOk, KidsOk, DictOk, IsOneChild, IsPairOfColumns}
-use Rattle.data_types.specs.TypedView.{typed_of, kind_of, kids_of, dict_in}
-use Rattle.layout_rules.specs.Layout.{laid_out, layout_of, bytes, first, is_valid}
-use Rattle.layout_rules.specs.Values.{Reader, each, child_item, field_items, row_items, item, item_or_entry, value_at, readers, reader_of, tree_items}
+use Rattle.data_types.specs.promise.KindTrees.{KindTree}
+use Rattle.data_types.specs.KindTrees.{NodesOk, AllNodesOk, DictNodesOk, KidsOk, DictOk, IsOneChild, IsPairOfColumns}
+use Rattle.data_types.specs.promise.TypedView.{typed_of}
+use Rattle.data_types.specs.TypedView.{kind_of, kids_of, dict_in}
+use Rattle.layout_rules.specs.promise.Layout.{laid_out, layout_of, bytes, first, is_valid}
+use Rattle.layout_rules.specs.promise.Values.{Reader, each, child_item, field_items, row_items, item, item_or_entry, value_at, readers, reader_of, tree_items}
 use Rattle.layout_rules.specs.Within.{StoredWithin, ItemsWithin, IndexWithin, ViewWithin, DataWithin}
 use Rattle.data_types.specs.declared.storage.Storage.{Storage}
 use Rattle.data_types.specs.declared.storage.Storage.TheVariants as storages

@@ -1,11 +1,12 @@
 -- A row of a struct has an item of each child.
 use Rattle.std.proofs.Common.{◌≡◌, ◌+◌, ℕ, List, [], ◌∷◌, Option, length, refl, arith}
 use Rattle.data_types.specs.declared.kind.DataType.{DataType}
-use Rattle.tree_model.specs.Tree.{Released, Live, IsLive, trees, maybe_tree, children_of}
-use Rattle.raw_array.specs.Members.{ArrayTree}
-use Rattle.data_types.specs.KindTrees.{KindTree}
-use Rattle.layout_rules.specs.Layout.{first}
-use Rattle.layout_rules.specs.Values.{field_items, readers, row_items}
+use Rattle.tree_model.specs.promise.TreeData.{Released, Live, trees, maybe_tree}
+use Rattle.tree_model.specs.promise.TreeParts.{IsLive, children_of}
+use Rattle.raw_array.specs.promise.Members.{ArrayTree}
+use Rattle.data_types.specs.promise.KindTrees.{KindTree}
+use Rattle.layout_rules.specs.promise.Layout.{first}
+use Rattle.layout_rules.specs.promise.Values.{field_items, readers, row_items}
 
 -- as many items as there are kids, where each has a child
 items-long : (kids : List KindTree) (children : List ArrayTree) (n : ℕ) → length children ≡ length kids

@@ -1,5 +1,5 @@
 -- What contracts see of a column.
-use Rattle.data_types.specs.TypedView.{typed_of}
+use Rattle.data_types.specs.promise.TypedView.{typed_of}
 use Rattle.arr_import.specs.declared.col.Col.{Col}
 use Rattle.arr_import.specs.Window.{Window}
 

@@ -3,8 +3,9 @@ use Rattle.std.specs.Prelude.{ℕ, Option, refl}
 use Rattle.std.specs.Coded.{Coded, Coded-set, code_by, coded×, coded_ℕ, coded_option}
 use Rattle.data_types.specs.contracts.kind.DataType as kinds
 use Rattle.tree_model.specs.Stored.{coded_tree}
-use Rattle.raw_array.specs.Members.{ArrayTree, coded_array}
-use Rattle.data_types.specs.KindTrees.{KindTree}
+use Rattle.raw_array.specs.promise.Members.{ArrayTree}
+use Rattle.raw_array.specs.Members.{coded_array}
+use Rattle.data_types.specs.promise.KindTrees.{KindTree}
 use Rattle.arr_import.specs.Window.{Window, IsDictionary}
 
 abbrev coded_kinds : Coded KindTree

@@ -1,8 +1,8 @@
 -- What contracts see of a column of indices with the column of its dictionary.
 use Rattle.std.specs.Prelude.{ℕ, ◌+◌, Bool}
-use Rattle.raw_array.specs.Members.{members_of}
-use Rattle.data_types.specs.KindTrees.{kind_in}
-use Rattle.layout_rules.specs.Layout.{is_valid}
+use Rattle.raw_array.specs.promise.Members.{members_of}
+use Rattle.data_types.specs.promise.KindTrees.{kind_in}
+use Rattle.layout_rules.specs.promise.Layout.{is_valid}
 use Rattle.arr_import.specs.declared.indexed.Indexed.{Indexed}
 use Rattle.arr_import.specs.Window.{Window, index_at}
 use Rattle.arr_import.specs.Cols.{window_of}

@@ -1,20 +1,20 @@
 -- Columns that are read with nothing to look up but the place: their items are stored in place or between offsets ("Arrow
 -- Columnar Format", "Validity bitmaps", "Fixed-size primitive layout" and "Variable-size binary layout").
 use Rattle.std.specs.Prelude.{◌≡◌, ◌==◌, ℕ, ◌+◌, ◌-◌, ◌*◌, ◌/◌, ◌<◌, Bool, List, Option, None, Some, length, take, drop, if◌then◌else◌}
-use Rattle.data_types.specs.Storage.{storage_of}
+use Rattle.data_types.specs.promise.Storage.{storage_of}
 use Rattle.data_types.specs.declared.storage.Storage.{Storage}
 use Rattle.data_types.specs.declared.storage.Storage.TheVariants as storages
-use Rattle.data_types.specs.Value.{Value}
-use Rattle.data_types.specs.Value.Value.{Null, Truth, Whole, Bits, Bytes}
-use Rattle.data_types.specs.Packed.{bit, meant, number_at}
-use Rattle.tree_model.specs.Tree.{dictionary_of}
-use Rattle.data_types.specs.KindTrees.{kind_in}
-use Rattle.layout_rules.specs.Layout.{is_valid_by, natural, offset_in}
+use Rattle.data_types.specs.promise.Value.{Value}
+use Rattle.data_types.specs.promise.Value.Value.{Null, Truth, Whole, Bits, Bytes}
+use Rattle.data_types.specs.promise.Packed.{bit, meant, number_at}
+use Rattle.tree_model.specs.promise.TreeParts.{dictionary_of}
+use Rattle.data_types.specs.promise.KindTrees.{kind_in}
+use Rattle.layout_rules.specs.promise.Layout.{is_valid_by, natural, offset_in}
 use Rattle.arr_import.specs.declared.plain.Plain.{Plain}
 use Rattle.arr_import.specs.Lent.{lent_bytes}
 use Rattle.arr_import.specs.StoredItems.{IsThere}
 use Rattle.arr_import.specs.Window.{Window}
-use Rattle.layout_rules.specs.Rules.{window_limit}
+use Rattle.layout_rules.specs.promise.Rules.{window_limit}
 
 -- ---- which windows are such columns
 

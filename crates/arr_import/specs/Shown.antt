@@ -1,7 +1,7 @@
 -- The value that a reference shows.
 use Rattle.std.specs.Prelude.{◌≡◌}
-use Rattle.data_types.specs.Value.{Value, values}
-use Rattle.data_types.specs.Value.Value.{Null, Truth, Whole, Bits, Bytes, Items}
+use Rattle.data_types.specs.promise.Value.{Value, values}
+use Rattle.data_types.specs.promise.Value.Value.{Null, Truth, Whole, Bits, Bytes, Items}
 use Rattle.arr_import.specs.declared.value_ref.ValueRef.{ValueRef}
 use Rattle.arr_import.specs.declared.value_ref.ValueRef.TheVariants as refs
 use Rattle.arr_import.specs.Window.{IsStructValue, items_of}

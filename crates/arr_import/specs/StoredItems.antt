@@ -1,13 +1,13 @@
 -- How the items of a type are stored ("Arrow Columnar Format", "Physical memory layout").
 use Rattle.std.specs.Prelude.{◌≡◌, ℕ, ◌+◌, ◌*◌, ◌/◌, ◌<◌, ◌≤◌, pos, ◌≤ℤ◌, Bool, false, IsTrue, List, length}
 use Rattle.data_types.specs.Packed.{IsWidth}
-use Rattle.raw_array.specs.Members.{ArrayMembers}
-use Rattle.layout_rules.specs.Layout.{natural, offset_in, stored_number, view_width}
+use Rattle.raw_array.specs.promise.Members.{ArrayMembers}
+use Rattle.layout_rules.specs.promise.Layout.{natural, offset_in, stored_number, view_width}
 use Rattle.layout_rules.specs.Within.{OffsetsRise}
 use Rattle.data_types.specs.declared.storage.Storage.{Storage}
 use Rattle.data_types.specs.declared.storage.Storage.TheVariants as storages
 -- the item of an array whose items are stored so
-pub use Rattle.layout_rules.specs.Values.{stored_item}
+pub use Rattle.layout_rules.specs.promise.Values.{stored_item}
 
 -- ---- what the buffers have of the item at a place, so that it can be read
 

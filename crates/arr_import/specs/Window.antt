@@ -3,13 +3,14 @@
 use Rattle.std.specs.Prelude.{◌≡◌, ℕ, ◌+◌, ◌/◌, List, Option, Some, if◌then◌else◌}
 use Rattle.data_types.specs.declared.kind.DataType.{DataType}
 use Rattle.data_types.specs.declared.kind.DataType.TheVariants as kinds
-use Rattle.data_types.specs.Value.{Value, values}
-use Rattle.data_types.specs.Value.Value.{Fields}
-use Rattle.tree_model.specs.Tree.{Live, present, child_at}
-use Rattle.raw_array.specs.Members.{ArrayMembers, ArrayTree, members_of}
-use Rattle.data_types.specs.KindTrees.{KindTree}
-use Rattle.layout_rules.specs.Layout.{first, natural, is_valid, stored_number}
-use Rattle.layout_rules.specs.Values.{each, value_at, row_items, tree_items}
+use Rattle.data_types.specs.promise.Value.{Value, values}
+use Rattle.data_types.specs.promise.Value.Value.{Fields}
+use Rattle.tree_model.specs.promise.TreeData.{Live, present}
+use Rattle.tree_model.specs.promise.TreeParts.{child_at}
+use Rattle.raw_array.specs.promise.Members.{ArrayMembers, ArrayTree, members_of}
+use Rattle.data_types.specs.promise.KindTrees.{KindTree}
+use Rattle.layout_rules.specs.promise.Layout.{first, natural, is_valid, stored_number}
+use Rattle.layout_rules.specs.promise.Values.{each, value_at, row_items, tree_items}
 
 -- this many items of an array with its kinds, from the item `start` of the array's window on
 pub record Window : Type 0 where

@@ -1,16 +1,18 @@
 //! A column: a window over the items of an array, with what it looks up once.
 ghost use Rattle.std.specs.Prelude.{◌≡◌, IsTrue, is_none, is_some, ◌+◌, ◌<◌, ◌≤◌, ◌^◌};
-ghost use Rattle.tree_model.specs.Tree.{IsLive, dictionary_of};
-ghost use Rattle.raw_array.specs.Members.{members_of};
-ghost use Rattle.data_types.specs.KindTrees.{NodesOk, kind_in};
-ghost use Rattle.data_types.specs.TypedView.{typed_of, kind_of, dict_in};
+ghost use Rattle.tree_model.specs.promise.TreeParts.{IsLive, dictionary_of};
+ghost use Rattle.raw_array.specs.promise.Members.{members_of};
+ghost use Rattle.data_types.specs.promise.KindTrees.{kind_in};
+ghost use Rattle.data_types.specs.KindTrees.{NodesOk};
+ghost use Rattle.data_types.specs.promise.TypedView.{typed_of};
+ghost use Rattle.data_types.specs.TypedView.{kind_of, dict_in};
 ghost use Rattle.data_types.specs.declared.typed.Typed.{out-Typed};
 ghost use Rattle.arr_import.specs.Accesses.{access_of};
-ghost use Rattle.layout_rules.specs.Layout.{buffer, bytes, first};
-ghost use Rattle.layout_rules.specs.Walk.{first_fault};
-ghost use Rattle.layout_rules.specs.Values.{tree_items};
+ghost use Rattle.layout_rules.specs.promise.Layout.{buffer, bytes, first};
+ghost use Rattle.layout_rules.specs.promise.Walk.{first_fault};
+ghost use Rattle.layout_rules.specs.promise.Values.{tree_items};
 ghost use Rattle.arr_import.specs.Lent.{lent_bytes};
-ghost use Rattle.data_types.specs.Storage.{storage_of as storage_is};
+ghost use Rattle.data_types.specs.promise.Storage.{storage_of as storage_is};
 ghost use Rattle.std.proofs.Props.{props};
 
 use crate::access::{Access, access_of};
@@ -75,8 +77,8 @@ pub fn buffer_bytes(array: &RawArray, k: usize) -> &[u8]
 impl<'a> Col<'a> {
     ghost use Rattle.std.specs.Prelude.{pos};
     ghost use Rattle.data_types.specs.KindTrees.{TypedOk};
-    ghost use Rattle.layout_rules.specs.Walk.{LayoutOk};
-    ghost use Rattle.layout_rules.specs.Values.{values_of};
+    ghost use Rattle.layout_rules.specs.promise.Walk.{LayoutOk};
+    ghost use Rattle.layout_rules.specs.promise.Values.{values_of};
     ghost use Rattle.arr_import.specs.Window.{whole, items_of};
     ghost use Rattle.arr_import.specs.Cols.{window_of};
 

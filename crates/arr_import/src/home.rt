@@ -1,11 +1,11 @@
 //! Where an item is once its dictionaries are followed.
 ghost use Rattle.std.specs.Prelude.{◌≡◌, true, None, MatchOption, ◌+◌, ◌<◌, ◌≤ℤ◌, pos};
-ghost use Rattle.tree_model.specs.Tree.{dictionary_of};
-ghost use Rattle.raw_array.specs.Members.{members_of};
+ghost use Rattle.tree_model.specs.promise.TreeParts.{dictionary_of};
+ghost use Rattle.raw_array.specs.promise.Members.{members_of};
 ghost use Rattle.data_types.specs.declared.storage.Storage.TheVariants as storages;
 ghost use Rattle.data_types.specs.declared.typed.Typed.{out-Typed};
 ghost use Rattle.data_types.specs.TypedView.{kind_of, dict_in};
-ghost use Rattle.layout_rules.specs.Layout.{is_valid as is_valid_at, natural};
+ghost use Rattle.layout_rules.specs.promise.Layout.{is_valid as is_valid_at, natural};
 ghost use Rattle.arr_import.specs.Window.{IsDictionary, home_of, index_at, item_at};
 ghost use Rattle.arr_import.specs.Cols.{window_of};
 ghost use Rattle.arr_import.specs.StoredItems.{IsIndexThere};

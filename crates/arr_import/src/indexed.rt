@@ -1,10 +1,10 @@
 //! A column of indices with the column of its dictionary, which is found once and not for each item.
 ghost use Rattle.std.specs.Prelude.{◌≡◌, true, false, None, ◌≤ℤ◌, ◌<ℤ◌, ℕ, List, IfSome, IfNone, pos, ◌<◌, ◌≢◌};
-ghost use Rattle.data_types.specs.Value.Value.{Null, Bytes};
-ghost use Rattle.tree_model.specs.Tree.{dictionary_of};
+ghost use Rattle.data_types.specs.promise.Value.Value.{Null, Bytes};
+ghost use Rattle.tree_model.specs.promise.TreeParts.{dictionary_of};
 ghost use Rattle.data_types.specs.TypedView.{dict_in};
 ghost use Rattle.data_types.specs.declared.typed.Typed.{out-Typed};
-ghost use Rattle.layout_rules.specs.Layout.{natural};
+ghost use Rattle.layout_rules.specs.promise.Layout.{natural};
 ghost use Rattle.arr_import.specs.Window.{IsDictionary, item_at};
 ghost use Rattle.arr_import.specs.Cols.{window_of};
 ghost use Rattle.arr_import.specs.Dictionaries.{IsDictionary-prop};

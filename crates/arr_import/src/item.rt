@@ -1,19 +1,20 @@
 //! The items of a column without a dictionary.
 ghost use Rattle.std.specs.Prelude.{◌≡◌, true, ◌==◌, ◌+◌, ◌*◌, ◌<◌, ◌≤◌, length, get_or};
-ghost use Rattle.data_types.specs.Packed.{bit};
-ghost use Rattle.raw_array.specs.Members.{members_of};
-ghost use Rattle.tree_model.specs.Tree.{Released, children_of, child_at, trees};
+ghost use Rattle.data_types.specs.promise.Packed.{bit};
+ghost use Rattle.raw_array.specs.promise.Members.{members_of};
+ghost use Rattle.tree_model.specs.promise.TreeData.{Released, trees};
+ghost use Rattle.tree_model.specs.promise.TreeParts.{children_of, child_at};
 ghost use Rattle.data_types.specs.TypedView.{kind_of, kids_of};
-ghost use Rattle.layout_rules.specs.Layout.{first, is_valid as is_valid_at};
-ghost use Rattle.layout_rules.specs.Values.{each, child_item, listed, readers, tree_items};
+ghost use Rattle.layout_rules.specs.promise.Layout.{first, is_valid as is_valid_at};
+ghost use Rattle.layout_rules.specs.promise.Values.{each, child_item, listed, readers, tree_items};
 ghost use Rattle.arr_import.specs.StoredItems.{stored_item, IsThere, IsListStorage, AreItemsThere};
 ghost use Rattle.data_types.specs.declared.storage.Storage.TheVariants as storages;
-ghost use Rattle.data_types.specs.Value.{values};
-ghost use Rattle.data_types.specs.Value.Value.{Items};
+ghost use Rattle.data_types.specs.promise.Value.{values};
+ghost use Rattle.data_types.specs.promise.Value.Value.{Items};
 ghost use Rattle.arr_import.specs.Window.{items_of};
 ghost use Rattle.arr_import.specs.Cols.{window_of};
 ghost use Rattle.arr_import.specs.Shown.{Shows};
-ghost use Rattle.layout_rules.specs.Rules.{window_limit};
+ghost use Rattle.layout_rules.specs.promise.Rules.{window_limit};
 
 use crate::col::Col;
 use crate::stored::{bits_at, bytes_at, start_at, text_at, truth_at, whole_at};

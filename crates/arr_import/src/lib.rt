@@ -15,7 +15,7 @@
 //! column. A list's items, and a dictionary but for [`Indexed`], are columns that are made anew for each item that is read.
 //!
 //! Contracts see a column as a window (`specs/Window.antt`): the kinds, the array's tree, and which items of it.
-//! `specs/Values.antt` of `layout_rules` says what an item is, `specs/Shown.antt` what a reference shows, and
+//! `specs/promise/Values.antt` of `layout_rules` says what an item is, `specs/Shown.antt` what a reference shows, and
 //! `specs/Plain.antt` what a plain column is. Left to others: whether an array is lawful (`layout_check`), and taking in a
 //! schema and an array together (`tree_import`).
 #![tactic(auto)]

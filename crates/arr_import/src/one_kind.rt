@@ -1,16 +1,17 @@
 //! The items of one kind alone: truth values, whole numbers, the bits of floats, and bytes. A column's access decides first, so
 //! that the common types have a short way of their own; any other is read by how it is stored, and an index by its entry.
 ghost use Rattle.std.specs.Prelude.{◌≡◌, ◌≢◌, true, false, None, ◌≤ℤ◌, ◌<ℤ◌, Bool, ℕ, ℤ, List, IfSome, IfNone, pos, ◌+◌, ◌<◌, if◌then◌else◌};
-ghost use Rattle.data_types.specs.Value.Value.{Null, Truth, Whole, Bits, Bytes};
+ghost use Rattle.data_types.specs.promise.Value.Value.{Null, Truth, Whole, Bits, Bytes};
 ghost use Rattle.data_types.specs.declared.storage.Storage.TheVariants as storages;
 ghost use Rattle.arr_import.specs.declared.access.Access.TheVariants as accesses;
 ghost use Rattle.arr_import.specs.Accesses.{IsNumber};
-ghost use Rattle.tree_model.specs.Tree.{children_of, trees};
-ghost use Rattle.raw_array.specs.Members.{members_of};
+ghost use Rattle.tree_model.specs.promise.TreeParts.{children_of};
+ghost use Rattle.tree_model.specs.promise.TreeData.{trees};
+ghost use Rattle.raw_array.specs.promise.Members.{members_of};
 ghost use Rattle.data_types.specs.TypedView.{dict_in, kids_of};
 ghost use Rattle.data_types.specs.declared.typed.Typed.{out-Typed};
-ghost use Rattle.layout_rules.specs.Layout.{natural, is_valid as is_valid_at};
-ghost use Rattle.layout_rules.specs.Values.{readers};
+ghost use Rattle.layout_rules.specs.promise.Layout.{natural, is_valid as is_valid_at};
+ghost use Rattle.layout_rules.specs.promise.Values.{readers};
 ghost use Rattle.arr_import.specs.StoredItems.{stored_item, AreBetween, IsOwn, IsViewStorage};
 ghost use Rattle.arr_import.specs.Window.{item_at};
 ghost use Rattle.arr_import.specs.Cols.{window_of};

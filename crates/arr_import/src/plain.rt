@@ -1,21 +1,22 @@
 //! Columns whose items are stored in place or between offsets, read with nothing to look up but the place. All else is
 //! settled once, when the column is asked for.
 ghost use Rattle.std.specs.Prelude.{◌≡◌, ◌↔◌, IsTrue, IfSome, IfNone, if◌then◌else◌, None, ◌+◌, ◌<◌, ◌≤◌, ℕ};
-ghost use Rattle.data_types.specs.Storage.{storage_of};
+ghost use Rattle.data_types.specs.promise.Storage.{storage_of};
 ghost use Rattle.data_types.specs.declared.storage.Storage.TheVariants as storages;
-ghost use Rattle.data_types.specs.Value.Value.{Null, Truth, Whole, Bits, Bytes};
-ghost use Rattle.tree_model.specs.Tree.{children_of, trees};
-ghost use Rattle.raw_array.specs.Members.{members_of};
-ghost use Rattle.layout_rules.specs.Layout.{buffer, first, is_valid as is_valid_at};
-ghost use Rattle.data_types.specs.KindTrees.{kind_in};
+ghost use Rattle.data_types.specs.promise.Value.Value.{Null, Truth, Whole, Bits, Bytes};
+ghost use Rattle.tree_model.specs.promise.TreeParts.{children_of};
+ghost use Rattle.tree_model.specs.promise.TreeData.{trees};
+ghost use Rattle.raw_array.specs.promise.Members.{members_of};
+ghost use Rattle.layout_rules.specs.promise.Layout.{buffer, first, is_valid as is_valid_at};
+ghost use Rattle.data_types.specs.promise.KindTrees.{kind_in};
 ghost use Rattle.data_types.specs.TypedView.{dict_in, kids_of};
-ghost use Rattle.layout_rules.specs.Values.{readers};
+ghost use Rattle.layout_rules.specs.promise.Values.{readers};
 ghost use Rattle.data_types.specs.declared.typed.Typed.{out-Typed};
 ghost use Rattle.arr_import.specs.StoredItems.{AreBetween, IsThere, stored_item};
 ghost use Rattle.arr_import.specs.Window.{item_at};
 ghost use Rattle.arr_import.specs.Cols.{window_of};
 ghost use Rattle.arr_import.specs.Plain.{IsBitThere, IsItemThere, IsPlain, IsPlainStorage, ShowsItems, is_valid_in, storage_in, valid_item};
-ghost use Rattle.layout_rules.specs.Rules.{window_limit};
+ghost use Rattle.layout_rules.specs.promise.Rules.{window_limit};
 
 use crate::col::Col;
 use crate::stored::{bits_at, bytes_at, text_at, truth_at, whole_at};

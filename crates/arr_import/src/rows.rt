@@ -1,7 +1,7 @@
 //! The rows of a struct column.
 ghost use Rattle.std.specs.Prelude.{◌≡◌, ℕ, ◌+◌, All, IfOk, length, map};
-ghost use Rattle.tree_model.specs.Tree.{children_of};
-ghost use Rattle.layout_rules.specs.Values.{row_items};
+ghost use Rattle.tree_model.specs.promise.TreeParts.{children_of};
+ghost use Rattle.layout_rules.specs.promise.Values.{row_items};
 ghost use Rattle.arr_import.specs.Window.{IsStruct, item_at};
 ghost use Rattle.arr_import.specs.Cols.{window_of};
 

@@ -1,7 +1,8 @@
 //! Items that are stored in place, or between offsets, read from the bytes of buffers. Places count items of the buffer.
 ghost use Rattle.std.specs.Prelude.{◌≡◌, ◌≢◌, ◌==◌, ◌+◌, ◌-◌, ◌*◌, ◌<◌, ◌≤◌, ◌≤ℤ◌, ◌^◌, pos, true, IsTrue, length, take, drop};
-ghost use Rattle.data_types.specs.Packed.{IsWidth, bit, meant, number_at, offset_width};
-ghost use Rattle.layout_rules.specs.Layout.{natural, offset_in};
+ghost use Rattle.data_types.specs.promise.Packed.{bit, meant, number_at, offset_width};
+ghost use Rattle.data_types.specs.Packed.{IsWidth};
+ghost use Rattle.layout_rules.specs.promise.Layout.{natural, offset_in};
 
 use bit_pack::{bit_at, int_at, offset_at, unsigned_at};
 

@@ -1,13 +1,15 @@
 //! What a column shows.
 ghost use Rattle.std.specs.Prelude.{◌≡◌, ◌≢◌, true, None, ◌≤ℤ◌, ◌<ℤ◌, Bool, ℕ, ℤ, List, IfSome, IfNone, pos, ◌+◌, ◌<◌, ◌≤◌, length, get_or};
-ghost use Rattle.data_types.specs.Value.{Value};
-ghost use Rattle.data_types.specs.Value.Value.{Null, Truth, Whole, Bits, Bytes};
-ghost use Rattle.tree_model.specs.Tree.{Released, child_at, children_of};
-ghost use Rattle.raw_array.specs.Members.{members_of};
-ghost use Rattle.data_types.specs.TypedView.{typed_of, kids_of, dict_in};
+ghost use Rattle.data_types.specs.promise.Value.{Value};
+ghost use Rattle.data_types.specs.promise.Value.Value.{Null, Truth, Whole, Bits, Bytes};
+ghost use Rattle.tree_model.specs.promise.TreeData.{Released};
+ghost use Rattle.tree_model.specs.promise.TreeParts.{child_at, children_of};
+ghost use Rattle.raw_array.specs.promise.Members.{members_of};
+ghost use Rattle.data_types.specs.promise.TypedView.{typed_of};
+ghost use Rattle.data_types.specs.TypedView.{kids_of, dict_in};
 ghost use Rattle.data_types.specs.declared.typed.Typed.{out-Typed};
-ghost use Rattle.layout_rules.specs.Layout.{first, natural, is_valid as is_valid_at};
-ghost use Rattle.layout_rules.specs.Values.{row_items, tree_items};
+ghost use Rattle.layout_rules.specs.promise.Layout.{first, natural, is_valid as is_valid_at};
+ghost use Rattle.layout_rules.specs.promise.Values.{row_items, tree_items};
 ghost use Rattle.arr_import.specs.Window.{IsRow, IsStruct, IsStructValue, child_window, home_of, item_at};
 ghost use Rattle.arr_import.specs.Cols.{window_of};
 ghost use Rattle.arr_import.specs.Shown.{Shows};

@@ -1,11 +1,11 @@
 //! Views, read in place ("Arrow Columnar Format", "Variable-size binary view layout"): a short item's bytes are in its
 //! view, a long one's in the data buffer that its view names.
 ghost use Rattle.std.specs.Prelude.{◌≡◌, true, pos, ◌+◌, ◌*◌, ◌<◌, ◌≤◌, length};
-ghost use Rattle.data_types.specs.Packed.{meant, number_at};
-ghost use Rattle.raw_array.specs.Members.{members_of};
-ghost use Rattle.tree_model.specs.Tree.{IsLive};
-ghost use Rattle.layout_rules.specs.Layout.{is_valid as is_valid_at, view_width};
-ghost use Rattle.layout_rules.specs.Views.{view_data};
+ghost use Rattle.data_types.specs.promise.Packed.{meant, number_at};
+ghost use Rattle.raw_array.specs.promise.Members.{members_of};
+ghost use Rattle.tree_model.specs.promise.TreeParts.{IsLive};
+ghost use Rattle.layout_rules.specs.promise.Layout.{is_valid as is_valid_at, view_width};
+ghost use Rattle.layout_rules.specs.promise.Views.{view_data};
 ghost use Rattle.layout_rules.specs.Within.{DataWithin};
 ghost use Rattle.arr_import.specs.StoredItems.{IsViewStorage};
 

@@ -1,7 +1,8 @@
 -- There are no more distinct picks than children.
 use Rattle.std.proofs.Common.{◌≡◌, ℕ, ◌+◌, ◌<◌, ◌≤◌, List, [], ◌∷◌, length, get_or, set, replicate, sym, ◌∙◌, arith, refl, suc, zero}
 use Rattle.std.proofs.lemmas.List.{length-set, length-replicate, get_or-replicate, get_or-set_other}
-use Rattle.tree_model.specs.Tree.{Tree, children_of}
+use Rattle.tree_model.specs.promise.TreeData.{Tree}
+use Rattle.tree_model.specs.promise.TreeParts.{children_of}
 use Rattle.arr_move.specs.TreeActs.{Distinct, InRange}
 
 abbrev total : List ℕ → ℕ

@@ -2,10 +2,13 @@
 use Rattle.std.proofs.Common.{arith, ◌≡◌, ◌≤◌, ◌<◌, ◌+◌, ◌-◌, ◌∙◌, ℕ, zero, suc, ℤ, List, [], ◌∷◌, ◌++◌, length, map, get_or, set, take, drop}
 use Rattle.std.proofs.Common.{refl, sym, ap, subst, append_assoc, true, false, if◌then◌else◌}
 use Rattle.std.proofs.lemmas.List.{drop-drop, drop-set-lt, get_or-drop, length-drop, map_more}
-use Rattle.tree_model.specs.Tree.{Released, Live, children_of, trees, tree_list, with_child}
+use Rattle.tree_model.specs.promise.TreeData.{Released, Live, trees, tree_list}
+use Rattle.tree_model.specs.promise.TreeParts.{children_of}
+use Rattle.tree_model.specs.Tree.{with_child}
 use Rattle.tree_model.proofs.Lists.{tree_list-trees}
 use Rattle.tree_model.proofs.Measures.{cost_of_all-append}
-use Rattle.raw_array.specs.Members.{ArrayTree, Cost, cost_of_all, holds, windowed}
+use Rattle.raw_array.specs.promise.Members.{ArrayTree, Cost, holds}
+use Rattle.raw_array.specs.Members.{cost_of_all, windowed}
 use Rattle.raw_array.specs.Windows.{FitsWindow, Window, is_whole}
 
 pub children-set : (t : ArrayTree) (i : ℕ) (c : ArrayTree) → children_of (with_child t i c) ≡ set (children_of t) i c

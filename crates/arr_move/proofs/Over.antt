@@ -1,10 +1,12 @@
 -- New fields over old ones, while the places are filled one after another.
 use Rattle.std.proofs.Common.{◌≡◌, None, ℕ, zero, suc, ◌<◌, List, [], ◌∷◌, length, set, get_or, take, refl, ap, sym, ◌∙◌, arith}
 use Rattle.std.proofs.lemmas.Option.{none-some}
-use Rattle.tree_model.specs.Tree.{IsLive, Released, Live, absent, present, trees, children_of, child_at, dictionary_of, with_child}
+use Rattle.tree_model.specs.promise.TreeParts.{IsLive, children_of, child_at, dictionary_of}
+use Rattle.tree_model.specs.promise.TreeData.{Released, Live, absent, present, trees}
+use Rattle.tree_model.specs.Tree.{with_child}
 use Rattle.tree_model.proofs.Lists.{tree_list-trees}
 use Rattle.arr_move.specs.TreeActs.{with_children}
-use Rattle.raw_schema.specs.Members.{SchemaTree, members_of}
+use Rattle.raw_schema.specs.promise.Members.{SchemaTree, members_of}
 use Rattle.arr_move.specs.Fields.{fields_over, new_or_old}
 
 pub kept-new : (new old : SchemaTree) → (new ≡ Released → ⊥) → new_or_old new old ≡ new

@@ -1,7 +1,8 @@
 -- What a call on two picks asks for, from what is known of each of the two.
 use Rattle.std.proofs.Common.{◌≡◌, ◌≢◌, ℕ, ℤ, ◌<◌, [], ◌∷◌, length, refl, arith, suc, zero}
-use Rattle.tree_model.specs.Tree.{Tree, Released, Live, IsLive, children_of, child_at}
-use Rattle.raw_array.specs.Members.{ArrayTree}
+use Rattle.tree_model.specs.promise.TreeData.{Tree, Released, Live}
+use Rattle.tree_model.specs.promise.TreeParts.{IsLive, children_of, child_at}
+use Rattle.raw_array.specs.promise.Members.{ArrayTree}
 use Rattle.raw_array.specs.Windows.{FitsWindow}
 use Rattle.arr_move.specs.TreeActs.{Distinct, InRange, FitWindow}
 

@@ -1,8 +1,10 @@
 -- A list of released trees, and a live tree whose children they are.
 use Rattle.std.proofs.Common.{◌≡◌, ℕ, length, get_or, replicate, refl, ap, ◌∙◌, arith, suc, zero}
 use Rattle.std.proofs.lemmas.List.{length-replicate, replicate_more, set-get_or}
-use Rattle.tree_model.specs.Tree.{Tree, Released, Live, MaybeTree, trees, tree_list, child_at, children_of, with_child, depth_of_all}
-use Rattle.tree_model.specs.Tree as tree
+use Rattle.tree_model.specs.promise.TreeData.{Tree, Released, Live, MaybeTree, trees, tree_list}
+use Rattle.tree_model.specs.promise.TreeParts.{child_at, children_of}
+use Rattle.tree_model.specs.Tree.{with_child, depth_of_all}
+use Rattle.tree_model.specs.promise.TreeCost as tree
 use Rattle.tree_model.proofs.Lists.{tree_list-trees, trees-tree_list}
 
 pub get_or-released : {M : Type 0} (n k : ℕ) → get_or (replicate {A = Tree M} n Released) k Released ≡ Released

@@ -1,7 +1,8 @@
 -- The fields that are moved out of a schema into a new one, or replaced in it ("The Arrow C Data Interface", "Moving child arrays").
 use Rattle.std.specs.Prelude.{ℕ, List, [], ◌∷◌, map}
-use Rattle.tree_model.specs.Tree.{Released, Live, child_at}
-use Rattle.raw_schema.specs.Members.{SchemaTree}
+use Rattle.tree_model.specs.promise.TreeData.{Released, Live}
+use Rattle.tree_model.specs.promise.TreeParts.{child_at}
+use Rattle.raw_schema.specs.promise.Members.{SchemaTree}
 use Rattle.arr_move.specs.TreeActs.{with_children}
 
 -- the schema with the picked fields in the order of the picks

@@ -1,7 +1,8 @@
 -- The children that are moved out of a parent into a new one ("The Arrow C Data Interface", "Moving child arrays").
 use Rattle.std.specs.Prelude.{◌≢◌, ℕ, get_or, ℤ, pos, ◌<◌, List, [], ◌∷◌, map, length, None}
-use Rattle.tree_model.specs.Tree.{Tree, Live, Released, trees, absent, child_at, children_of}
-use Rattle.raw_array.specs.Members.{ArrayMembers, ArrayTree, members_of}
+use Rattle.tree_model.specs.promise.TreeData.{Tree, Live, Released, trees, absent}
+use Rattle.tree_model.specs.promise.TreeParts.{child_at, children_of}
+use Rattle.raw_array.specs.promise.Members.{ArrayMembers, ArrayTree, members_of}
 use Rattle.raw_array.specs.Windows.{Window, FitsWindow}
 use Rattle.raw_array.specs.declared.array.ReleaseKind.TheVariants.{Assembled}
 

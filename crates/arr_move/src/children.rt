@@ -1,7 +1,10 @@
 //! Children that are moved out of an array, one after the other ("The Arrow C Data Interface", "Moving child arrays").
 ghost use Rattle.std.specs.Prelude.{◌≡◌, ◌+◌, ◌-◌, ◌<◌, ◌≤◌, ◌^◌, ◌≤ℤ◌, ℕ, pos, [], ◌∷◌, ◌++◌, length, map, take, drop, vec_len, vec_capacity};
-ghost use Rattle.tree_model.specs.Tree.{Released, IsLive, children_of, child_at, trees, with_child};
-ghost use Rattle.raw_array.specs.Members.{Cost, cost_of_all};
+ghost use Rattle.tree_model.specs.promise.TreeData.{Released, trees};
+ghost use Rattle.tree_model.specs.promise.TreeParts.{IsLive, children_of, child_at};
+ghost use Rattle.tree_model.specs.Tree.{with_child};
+ghost use Rattle.raw_array.specs.promise.Members.{Cost};
+ghost use Rattle.raw_array.specs.Members.{cost_of_all};
 ghost use Rattle.raw_array.specs.Windows.{FitsWindow, Window};
 
 use crate::columns::slice;

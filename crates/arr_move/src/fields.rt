@@ -1,12 +1,16 @@
 //! Fields moved out of a schema into a new one.
 ghost use Rattle.std.specs.Prelude.{◌≡◌, ℕ, ◌+◌, ◌-◌, ◌<◌, ◌≤◌, ◌^◌, length, map, replicate, None, is_ok, if◌then◌else◌, IfOk, IfErr};
-ghost use Rattle.tree_model.specs.Tree.{Released, Live, IsLive, Depth, absent, trees, children_of, child_at, with_child, dictionary_of};
-ghost use Rattle.raw_schema.specs.Members.{Nodes, members_of, nodes_of_all};
+ghost use Rattle.tree_model.specs.promise.TreeData.{Released, Live, absent, trees};
+ghost use Rattle.tree_model.specs.promise.TreeParts.{IsLive, children_of, child_at, dictionary_of};
+ghost use Rattle.tree_model.specs.Tree.{Depth, with_child};
+ghost use Rattle.tree_model.specs.promise.TreeCost.{Nodes};
+ghost use Rattle.raw_schema.specs.promise.Members.{members_of};
+ghost use Rattle.raw_schema.specs.Members.{nodes_of_all};
 ghost use Rattle.raw_schema.specs.View.{bytes_of};
 ghost use Rattle.raw_schema.specs.Parts.{tree_of_parts};
 ghost use Rattle.arr_move.specs.TreeActs.{InRange, Distinct, with_children};
 ghost use Rattle.arr_move.specs.Fields.{Fields};
-ghost use Rattle.unit_pass.specs.Tally.{risen};
+ghost use Rattle.unit_pass.specs.promise.Tally.{risen};
 
 use raw_schema::{Gone, PartlyMovedSchema, RawSchema, SchemaParts};
 use std::alloc::Global;

@@ -1,10 +1,14 @@
 //! Fields of a schema that are replaced by new ones.
 ghost use Rattle.std.specs.Prelude.{◌≡◌, ◌≢◌, ◌+◌, ◌-◌, ◌^◌, ◌<◌, ◌≤◌, ℕ, None, IfOk, IfErr, OnOk, MatchResult, length};
-ghost use Rattle.tree_model.specs.Tree.{Depth, IsLive, Live, absent, child_at, children_of, depth_of_all, dictionary_of, trees, with_child};
+ghost use Rattle.tree_model.specs.promise.TreeParts.{IsLive, child_at, children_of, dictionary_of};
+ghost use Rattle.tree_model.specs.promise.TreeData.{Live, absent, trees};
+ghost use Rattle.tree_model.specs.Tree.{Depth, depth_of_all, with_child};
 ghost use Rattle.arr_move.specs.TreeActs.{with_children};
-ghost use Rattle.raw_schema.specs.Members.{Nodes, members_of, nodes_of_all};
+ghost use Rattle.tree_model.specs.promise.TreeCost.{Nodes};
+ghost use Rattle.raw_schema.specs.promise.Members.{members_of};
+ghost use Rattle.raw_schema.specs.Members.{nodes_of_all};
 ghost use Rattle.raw_schema.specs.View.{bytes_of};
-ghost use Rattle.unit_pass.specs.Tally.{risen};
+ghost use Rattle.unit_pass.specs.promise.Tally.{risen};
 ghost use Rattle.arr_move.specs.Fields.{fields_over, new_or_old};
 
 use crate::fields::{copied_metadata, copied_name};

@@ -1,7 +1,7 @@
 //! Columns picked out of order, and a slice, against what their parents held.
 ghost use Rattle.std.specs.Prelude.{◌≡◌, pos};
-ghost use Rattle.tree_model.specs.Tree.{IsLive};
-ghost use Rattle.raw_array.specs.Members.{members_of};
+ghost use Rattle.tree_model.specs.promise.TreeParts.{IsLive};
+ghost use Rattle.raw_array.specs.promise.Members.{members_of};
 
 use crate::columns::{self, slice, take_columns};
 use buf_block::{BufView, make};

@@ -5,19 +5,21 @@ use Rattle.std.specs.Prelude.{◌⊎◌, None, All, map, slice_index_or, get_or,
 use Rattle.std.specs.List.{concat}
 use Rattle.std.proofs.lemmas.Bool.{lt-ltb}
 use Rattle.std.proofs.lemmas.List.{get_or-map, length-map}
-use Rattle.data_types.specs.FieldText.{form_of}
+use Rattle.data_types.specs.promise.FieldText.{form_of}
 use Rattle.data_types.specs.Kinds.{KindOk}
-use Rattle.data_types.specs.Value.{Value, Null, Bytes, byte_total, bytes_of}
+use Rattle.data_types.specs.promise.Value.{Value, Null, Bytes, byte_total, bytes_of}
 use Rattle.data_types.specs.declared.kind.DataType.{DataType}
 use Rattle.data_types.specs.declared.kind.DataType.TheVariants as kinds
-use Rattle.col_build.specs.Encoding.{Fits, HasForm, are_bounded, are_within, is_wide, push_fault}
-use Rattle.tree_model.specs.Tree.{Released, Live, no_trees, absent}
-use Rattle.raw_array.specs.Members.{ArrayMembers, ArrayTree, members_of}
-use Rattle.data_types.specs.KindTrees.{KindTree, NodesOk, TypedOk}
-use Rattle.layout_rules.specs.Layout.{bytes, data_of, first, is_valid, items, natural, offset}
+use Rattle.col_build.specs.promise.Encoding.{are_within, is_wide}
+use Rattle.col_build.specs.Encoding.{Fits, HasForm, are_bounded, push_fault}
+use Rattle.tree_model.specs.promise.TreeData.{Released, Live, no_trees, absent}
+use Rattle.raw_array.specs.promise.Members.{ArrayMembers, ArrayTree, members_of}
+use Rattle.data_types.specs.promise.KindTrees.{KindTree}
+use Rattle.data_types.specs.KindTrees.{NodesOk, TypedOk}
+use Rattle.layout_rules.specs.promise.Layout.{bytes, data_of, first, is_valid, items, natural, offset}
 use Rattle.layout_rules.specs.Lawful.{ItemsHold, RootHolds}
-use Rattle.layout_rules.specs.Values.{each, tree_items, value_at, values_of}
-use Rattle.layout_rules.specs.Walk.{LayoutOk}
+use Rattle.layout_rules.specs.promise.Values.{each, tree_items, value_at, values_of}
+use Rattle.layout_rules.specs.promise.Walk.{LayoutOk}
 use Rattle.layout_rules.specs.Within.{OffsetsRise}
 use Rattle.layout_rules.proofs.TextData.{natural-rise}
 use Rattle.layout_rules.proofs.TreeLaws.{OfLawful}

@@ -2,10 +2,12 @@
 use Rattle.std.proofs.Common.{◌≡◌, ◌≢◌, ℕ, zero, suc, ◌+◌, ◌<◌, ◌≤◌, ℤ, List, [], ◌∷◌, ◌++◌, length, map, get_or, set, take, drop, refl, ap, sym, arith}
 use Rattle.std.proofs.Math.Seq.{drop-nil}
 use Rattle.std.proofs.lemmas.List.{get_or-set_other}
-use Rattle.tree_model.specs.Tree.{IsLive, Released, Live, trees, tree_list}
+use Rattle.tree_model.specs.promise.TreeParts.{IsLive}
+use Rattle.tree_model.specs.promise.TreeData.{Released, Live, trees, tree_list}
 use Rattle.tree_model.proofs.Lists.{trees-tree_list}
 use Rattle.tree_model.proofs.Measures.{cost_of_all-append}
-use Rattle.raw_array.specs.Members.{ArrayTree, Cost, cost_of_all, holds}
+use Rattle.raw_array.specs.promise.Members.{ArrayTree, Cost, holds}
+use Rattle.raw_array.specs.Members.{cost_of_all}
 use Rattle.raw_array.specs.Windows.{Window}
 use Rattle.arr_move.specs.TreeActs.{Columns, Distinct}
 use Rattle.raw_array.proofs.Windows.{Cost-Window}

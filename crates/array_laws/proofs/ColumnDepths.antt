@@ -1,9 +1,11 @@
 -- How deep trees of picked, packed and unpacked columns are.
 use Rattle.std.proofs.Common.{◌≡◌, ℕ, zero, suc, ◌+◌, ◌≤◌, ℤ, List, [], ◌∷◌, ◌++◌, map, get_or, take, drop, refl, ap, arith}
-use Rattle.tree_model.specs.Tree.{IsLive, Released, Live, trees, tree_list, Depth, depth_of_all}
+use Rattle.tree_model.specs.promise.TreeParts.{IsLive}
+use Rattle.tree_model.specs.promise.TreeData.{Released, Live, trees, tree_list}
+use Rattle.tree_model.specs.Tree.{Depth, depth_of_all}
 use Rattle.tree_model.proofs.Lists.{trees-tree_list}
 use Rattle.tree_model.proofs.Measures.{depth_of_all-append}
-use Rattle.raw_array.specs.Members.{ArrayTree}
+use Rattle.raw_array.specs.promise.Members.{ArrayTree}
 use Rattle.raw_array.specs.Windows.{Window}
 use Rattle.raw_array.proofs.Windows.{Depth-Window}
 use Rattle.arr_move.specs.TreeActs.{Columns}

@@ -1,14 +1,17 @@
 -- The types of columns that are picked, packed and unpacked.
 use Rattle.std.proofs.Common.{◌≡◌, ℕ, zero, suc, ◌<◌, List, [], ◌∷◌, length, get_or, refl, ap, arith}
-use Rattle.data_types.specs.Table.{Column, Kind, Flat, Dict, Columns, Members, no_members, more_members}
-use Rattle.data_types.specs.ColumnView.{members}
+use Rattle.data_types.specs.promise.Table.{Column, Kind, Flat, Dict, Columns, Members, no_members, more_members}
+use Rattle.data_types.specs.promise.ColumnView.{members}
 use Rattle.data_types.specs.declared.kind.DataType.{DataType}
 use Rattle.data_types.specs.declared.kind.DataType.TheVariants as kinds
-use Rattle.tree_model.specs.Tree.{IsLive, Live, Released, absent, Trees, trees, more_trees}
-use Rattle.data_types.specs.KindTrees.{AllNodesOk, KindTree, NodesOk}
-use Rattle.data_types.specs.ColumnKinds.{table_type, type_of_column, type_of_kind, types_of_columns, types_of_members}
+use Rattle.tree_model.specs.promise.TreeParts.{IsLive}
+use Rattle.tree_model.specs.promise.TreeData.{Live, Released, absent, Trees, trees, more_trees}
+use Rattle.data_types.specs.promise.KindTrees.{KindTree}
+use Rattle.data_types.specs.KindTrees.{AllNodesOk, NodesOk}
+use Rattle.data_types.specs.promise.ColumnKinds.{table_type, type_of_column, type_of_kind, types_of_columns, types_of_members}
 use Rattle.array_laws.proofs.PickedColumns.{head-within, tail-within}
-use Rattle.data_types.specs.Parts.{AreWithin, member_columns, picked}
+use Rattle.data_types.specs.promise.Parts.{member_columns, picked}
+use Rattle.data_types.specs.Parts.{AreWithin}
 use Rattle.array_laws.specs.Picking.{AreLive}
 
 kind-live : (kind : Kind) → IsLive (type_of_kind kind)

@@ -1,14 +1,16 @@
 -- A lawful array is no deeper than its type.
 use Rattle.std.proofs.Common.{◌≡◌, ℕ, suc, ◌≤◌, [], ◌∷◌, ◌++◌, length, None, Some, ◌∙◌, Option, sym, List, arith}
 use Rattle.data_types.specs.declared.kind.DataType.{DataType}
-use Rattle.tree_model.specs.Tree.{Released, Live, Trees, no_trees, more_trees, MaybeTree, absent, present, tree_list, option_tree, Depth, depth_of_all}
+use Rattle.tree_model.specs.promise.TreeData.{Released, Live, Trees, no_trees, more_trees, MaybeTree, absent, present, tree_list, option_tree}
+use Rattle.tree_model.specs.Tree.{Depth, depth_of_all}
 use Rattle.tree_model.specs.Tree.{depth_of_maybe}
-use Rattle.raw_array.specs.Members.{ArrayMembers, ArrayTree}
-use Rattle.data_types.specs.KindTrees.{AllNodesOk, DictNodesOk, KindTree, NodesOk}
-use Rattle.layout_rules.specs.Rules.{count_wrong, one_if}
-use Rattle.data_types.specs.Ways.{Steps, dictionary_step}
-use Rattle.layout_rules.specs.Walk.{LayoutOk, fault_from, first_some, node_fault, visit_fault, visits, walk_below, walk_children}
-use Rattle.layout_rules.specs.Walk.{walk_dictionary, walk_of, walks_of}
+use Rattle.raw_array.specs.promise.Members.{ArrayMembers, ArrayTree}
+use Rattle.data_types.specs.promise.KindTrees.{KindTree}
+use Rattle.data_types.specs.KindTrees.{AllNodesOk, DictNodesOk, NodesOk}
+use Rattle.layout_rules.specs.promise.Rules.{count_wrong, one_if}
+use Rattle.data_types.specs.promise.Ways.{Steps, dictionary_step}
+use Rattle.layout_rules.specs.promise.Walk.{LayoutOk, fault_from, first_some, node_fault, visit_fault, visits, walk_below, walk_children}
+use Rattle.layout_rules.specs.promise.Walk.{walk_dictionary, walk_of, walks_of}
 use Rattle.layout_rules.proofs.Lawful.{lawful-first_fault, left-none, right-none}
 use Rattle.layout_rules.proofs.Walks.{first_some-append}
 use Rattle.layout_rules.specs.declared.rule.LayoutRule.TheVariants as rules

@@ -1,11 +1,13 @@
 -- A flat type has no children.
 use Rattle.std.proofs.Common.{◌≡◌, ◌∙◌, None, refl, ap, arith}
 use Rattle.data_types.specs.ColumnForms.{HasForm}
-use Rattle.data_types.specs.FieldText.{form_of}
+use Rattle.data_types.specs.promise.FieldText.{form_of}
 use Rattle.data_types.specs.declared.kind.DataType.{DataType}
 use Rattle.data_types.specs.declared.kind.DataType.TheVariants as kinds
-use Rattle.tree_model.specs.Tree.{Released, Live, Trees, no_trees, more_trees, MaybeTree, absent, present, dictionary_of, option_tree}
-use Rattle.data_types.specs.KindTrees.{IsNoChild, KidsOk, KindTree, TypedOk, kind_in}
+use Rattle.tree_model.specs.promise.TreeData.{Released, Live, Trees, no_trees, more_trees, MaybeTree, absent, present, option_tree}
+use Rattle.tree_model.specs.promise.TreeParts.{dictionary_of}
+use Rattle.data_types.specs.promise.KindTrees.{KindTree, kind_in}
+use Rattle.data_types.specs.KindTrees.{IsNoChild, KidsOk, TypedOk}
 
 none-of : (kids : Trees DataType) → IsNoChild kids → kids ≡ no_trees
 none-of no_trees none = refl

@@ -1,10 +1,10 @@
 -- Windows one behind another.
 use Rattle.std.proofs.Common.{◌≡◌, ◌∙◌, ℕ, zero, suc, ◌+◌, ◌≤◌, pos, List, [], ◌∷◌, ◌++◌, take, drop, refl, ap, sym, arith}
 use Rattle.std.proofs.Math.Seq.{drop-nil, take-nil}
-use Rattle.raw_array.specs.Members.{ArrayTree}
-use Rattle.data_types.specs.KindTrees.{KindTree}
-use Rattle.layout_rules.specs.Values.{rows_of, tree_items, values_of}
-use Rattle.layout_rules.specs.Walk.{LayoutOk}
+use Rattle.raw_array.specs.promise.Members.{ArrayTree}
+use Rattle.data_types.specs.promise.KindTrees.{KindTree}
+use Rattle.layout_rules.specs.promise.Values.{rows_of, tree_items, values_of}
+use Rattle.layout_rules.specs.promise.Walk.{LayoutOk}
 use Rattle.raw_array.specs.Windows.{Window}
 use Rattle.array_laws.proofs.WindowTree.{window-has_rows, window-has_values}
 

@@ -2,11 +2,12 @@
 use Rattle.std.proofs.Common.{◌≡◌, ℕ, ◌≤◌, ℤ, pos, negsuc, false, [], None, Some, refl, arith}
 use Rattle.std.specs.Prelude.{nat_lt}
 use Rattle.data_types.specs.declared.kind.DataType.{DataType}
-use Rattle.tree_model.specs.Tree.{IsLive, Released, Live, Trees, MaybeTree, tree_list, option_tree}
-use Rattle.raw_array.specs.Members.{ArrayMembers, ArrayTree}
-use Rattle.layout_rules.specs.Layout.{end, first, items, natural}
-use Rattle.layout_rules.specs.Rules.{Node, fault_if, is_negative, window_limit}
-use Rattle.layout_rules.specs.Walk.{LayoutOk, first_fault, first_some, node_fault, visit_fault, walk_below, walk_of, walks_of}
+use Rattle.tree_model.specs.promise.TreeParts.{IsLive}
+use Rattle.tree_model.specs.promise.TreeData.{Released, Live, Trees, MaybeTree, tree_list, option_tree}
+use Rattle.raw_array.specs.promise.Members.{ArrayMembers, ArrayTree}
+use Rattle.layout_rules.specs.promise.Layout.{end, first, items, natural}
+use Rattle.layout_rules.specs.promise.Rules.{Node, fault_if, is_negative, window_limit}
+use Rattle.layout_rules.specs.promise.Walk.{LayoutOk, first_fault, first_some, node_fault, visit_fault, walk_below, walk_of, walks_of}
 use Rattle.layout_rules.proofs.Lawful.{lawful-first_fault, left-none, right-none}
 use Rattle.layout_rules.specs.declared.rule.LayoutRule.TheVariants as rules
 use Rattle.layout_rules.proofs.NamedRules.{AreMet, are-met}

@@ -2,7 +2,7 @@
 use Rattle.std.proofs.Common.{◌≡◌, ◌∙◌, ℕ, zero, suc, ◌+◌, ◌<◌, ◌≤◌, ℤ, Bool, true, false, Option, None, refl, ap, arith}
 use Rattle.std.specs.Option.{option_or}
 use Rattle.layout_rules.specs.declared.rule.Numbers.{Numbers}
-use Rattle.layout_rules.specs.Rules.{fault_if, first_below}
+use Rattle.layout_rules.specs.promise.Rules.{fault_if, first_below}
 use Rattle.layout_rules.proofs.Firsts.{first_below-none_at}
 
 pub both-none : {X : Type 0} → (a b : Option X) → a ≡ None → b ≡ None → option_or a b ≡ None

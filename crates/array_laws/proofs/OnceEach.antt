@@ -5,8 +5,8 @@ use Rattle.std.specs.Prelude.{◌==◌, All, map, if◌then◌else◌}
 use Rattle.std.specs.List.{concat}
 use Rattle.std.proofs.lemmas.Bool.{cases_eq}
 use Rattle.std.proofs.lemmas.Bool.Decides.{nat_tests}
-use Rattle.data_types.specs.Value.{Value, byte_total, bytes_of}
-use Rattle.layout_rules.specs.Values.{each}
+use Rattle.data_types.specs.promise.Value.{Value, byte_total, bytes_of}
+use Rattle.layout_rules.specs.promise.Values.{each}
 use Rattle.array_laws.specs.Items.{AreApart}
 
 -- ---- numbers that are there once each, and what each weighs

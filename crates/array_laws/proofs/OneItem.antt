@@ -7,26 +7,27 @@ use Rattle.std.specs.Str.Lossy.{utf8_valid_len}
 use Rattle.std.proofs.lemmas.Bool.{lt-ltb}
 use Rattle.std.proofs.lemmas.Bool.Decides.{nat_tests}
 use Rattle.std.proofs.lemmas.List.{length-take-le, length-take, length-drop}
-use Rattle.data_types.specs.FieldText.{Wholes, FloatBits, Text, HexBytes, SizedHex, Decimals, form_of, in_range, places, stored_form}
+use Rattle.data_types.specs.promise.FieldText.{Wholes, FloatBits, Text, HexBytes, SizedHex, Decimals, form_of, in_range, places, stored_form}
 use Rattle.data_types.specs.Kinds.{KindOk}
-use Rattle.data_types.specs.Value.{Null, Whole, Bits, Bytes}
+use Rattle.data_types.specs.promise.Value.{Null, Whole, Bits, Bytes}
 use Rattle.data_types.specs.declared.kind.DataType.{DataType}
 use Rattle.data_types.specs.declared.kind.DataType.TheVariants as kinds
 use Rattle.data_types.specs.declared.storage.Storage.{Storage}
 use Rattle.data_types.specs.declared.storage.Storage.TheVariants as stored
-use Rattle.data_types.specs.Storage.{storage_of}
-use Rattle.data_types.specs.Packed.{IsWidth, meant, number_at}
+use Rattle.data_types.specs.promise.Storage.{storage_of}
+use Rattle.data_types.specs.promise.Packed.{meant, number_at}
+use Rattle.data_types.specs.Packed.{IsWidth}
 use Rattle.col_build.specs.Encoding.{HasForm, fault_if, push_fault}
 use Rattle.col_build.proofs.ShapeFacts.{FormOk, form-ok}
-use Rattle.tree_model.specs.Tree.{Released, Live, no_trees, absent, tree_list}
-use Rattle.raw_array.specs.Members.{ArrayMembers, ArrayTree, members_of}
+use Rattle.tree_model.specs.promise.TreeData.{Released, Live, no_trees, absent, tree_list}
+use Rattle.raw_array.specs.promise.Members.{ArrayMembers, ArrayTree, members_of}
 use Rattle.layout_rules.specs.declared.rule.LayoutRule.TheVariants as rules
-use Rattle.layout_rules.specs.Layout.{bytes, data_of, first, is_valid, items, laid_out, layout_of, natural, offset, stored_bytes, stored_number}
+use Rattle.layout_rules.specs.promise.Layout.{bytes, data_of, first, is_valid, items, laid_out, layout_of, natural, offset, stored_bytes, stored_number}
 use Rattle.layout_rules.specs.Lawful.{ItemsHold}
-use Rattle.layout_rules.specs.Rules.{not_text, texts_wrong}
-use Rattle.layout_rules.specs.Rules.{fault_if as rule_fault}
-use Rattle.layout_rules.specs.Values.{item, stored_item, tree_items, value_at}
-use Rattle.layout_rules.specs.Walk.{LayoutOk}
+use Rattle.layout_rules.specs.promise.Rules.{not_text, texts_wrong}
+use Rattle.layout_rules.specs.promise.Rules.{fault_if as rule_fault}
+use Rattle.layout_rules.specs.promise.Values.{item, stored_item, tree_items, value_at}
+use Rattle.layout_rules.specs.promise.Walk.{LayoutOk}
 use Rattle.layout_rules.specs.Within.{StoredWithin}
 use Rattle.layout_rules.proofs.Firsts.{first_below-none_at}
 use Rattle.layout_rules.proofs.Roots.{level_in, root-met}

@@ -2,21 +2,23 @@
 use Rattle.std.proofs.Common.{◌≡◌, ◌∙◌, ℕ, zero, suc, ◌+◌, ◌<◌, ◌≤◌, pos, List, [], ◌∷◌, length, map, get_or, refl, ap, sym, subst, arith}
 use Rattle.std.specs.List.{All}
 use Rattle.std.proofs.lemmas.List.Elements.{All-nil, All-cons}
-use Rattle.data_types.specs.Value.{Null}
-use Rattle.tree_model.specs.Tree.{IsLive, Released, Live, Trees, MaybeTree, absent, trees, tree_list}
-use Rattle.raw_array.specs.Members.{ArrayMembers, ArrayTree}
-use Rattle.data_types.specs.KindTrees.{KindTree}
-use Rattle.layout_rules.specs.Layout.{first, items}
-use Rattle.layout_rules.specs.Values.{each, field_items, readers, row_items, rows_of, tree_items, value_at}
-use Rattle.layout_rules.specs.Walk.{ChunkOk, LayoutOk}
-use Rattle.data_types.specs.ColumnKinds.{table_type}
+use Rattle.data_types.specs.promise.Value.{Null}
+use Rattle.tree_model.specs.promise.TreeParts.{IsLive}
+use Rattle.tree_model.specs.promise.TreeData.{Released, Live, Trees, MaybeTree, absent, trees, tree_list}
+use Rattle.raw_array.specs.promise.Members.{ArrayMembers, ArrayTree}
+use Rattle.data_types.specs.promise.KindTrees.{KindTree}
+use Rattle.layout_rules.specs.promise.Layout.{first, items}
+use Rattle.layout_rules.specs.promise.Values.{each, field_items, readers, row_items, rows_of, tree_items, value_at}
+use Rattle.layout_rules.specs.promise.Walk.{ChunkOk, LayoutOk}
+use Rattle.data_types.specs.promise.ColumnKinds.{table_type}
 use Rattle.raw_array.specs.Windows.{FitsWindow, Window}
 use Rattle.arr_move.specs.TreeActs.{Columns, FitParentWindow, cut, struct_members}
 use Rattle.array_laws.proofs.ChunkParts.{StructFacts, struct-facts}
 use Rattle.array_laws.proofs.WindowItems.{each-same}
 use Rattle.array_laws.proofs.WindowTree.{window-fits, window-item, window-items, window-lawful}
 use Rattle.array_laws.specs.Picking.{AreLive}
-use Rattle.data_types.specs.Parts.{AreWithin, picked}
+use Rattle.data_types.specs.promise.Parts.{picked}
+use Rattle.data_types.specs.Parts.{AreWithin}
 use Rattle.array_laws.proofs.StructLaw.{AreLawful, struct-chunk, struct-rows, struct_tree}
 
 pub head-within : (count p : ℕ) (picks : List ℕ) → AreWithin count (p ∷ picks) → p < count

@@ -5,14 +5,14 @@ use Rattle.data_types.specs.declared.kind.DataType.{DataType}
 use Rattle.data_types.specs.declared.kind.DataType.TheVariants as kinds
 use Rattle.data_types.specs.declared.storage.Storage.{Storage}
 use Rattle.data_types.specs.declared.storage.Storage.TheVariants as stored
-use Rattle.data_types.specs.Storage.{storage_of}
-use Rattle.data_types.specs.Packed.{bit, meant, number_at}
-use Rattle.data_types.specs.Value.{Value, values}
-use Rattle.data_types.specs.Value.Value.{Null, Truth, Whole, Bits, Bytes, Items, Fields}
-use Rattle.raw_array.specs.Members.{ArrayMembers, ArrayTree}
-use Rattle.layout_rules.specs.Layout.{buffer, bytes_or_none, first, is_valid, is_valid_by, natural, offset_in}
+use Rattle.data_types.specs.promise.Storage.{storage_of}
+use Rattle.data_types.specs.promise.Packed.{bit, meant, number_at}
+use Rattle.data_types.specs.promise.Value.{Value, values}
+use Rattle.data_types.specs.promise.Value.Value.{Null, Truth, Whole, Bits, Bytes, Items, Fields}
+use Rattle.raw_array.specs.promise.Members.{ArrayMembers, ArrayTree}
+use Rattle.layout_rules.specs.promise.Layout.{buffer, bytes_or_none, first, is_valid, is_valid_by, natural, offset_in}
 use Rattle.array_laws.proofs.PlaceRules.{Buffers, data_at, view_at}
-use Rattle.layout_rules.specs.Values.{Reader, child_item, dictionary_item, each, field_items, item_or_entry, stored_item}
+use Rattle.layout_rules.specs.promise.Values.{Reader, child_item, dictionary_item, each, field_items, item_or_entry, stored_item}
 
 -- ---- an item of the array's own
 abbrev number_by : ℕ → Bool → Buffers → ℕ → ℤ

@@ -6,15 +6,15 @@ use Rattle.std.specs.Str.{is_utf8}
 use Rattle.std.specs.Str.Lossy.{utf8_valid_len}
 use Rattle.data_types.specs.declared.kind.DataType.{DataType}
 use Rattle.data_types.specs.declared.kind.DataType.TheVariants as kinds
-use Rattle.data_types.specs.Packed.{meant, number_at}
-use Rattle.raw_array.specs.Members.{ArrayMembers}
+use Rattle.data_types.specs.promise.Packed.{meant, number_at}
+use Rattle.raw_array.specs.promise.Members.{ArrayMembers}
 use Rattle.layout_rules.specs.declared.layout.Layout.{Layout}
 use Rattle.layout_rules.specs.declared.layout.Layout.TheVariants.{NoBuffers, FixedWidth, TruthBits, ByOffsets, ListOffsets, FixedItems, ByChildren, Views}
 use Rattle.layout_rules.specs.declared.rule.Numbers.{Numbers}
-use Rattle.layout_rules.specs.Layout.{buffer, bytes_or_none, data_place, first, is_valid_by, items, natural, offset_in, view_width}
-use Rattle.layout_rules.specs.Views.{is_long}
-use Rattle.layout_rules.specs.Rules.{fault, fault_if, first_below, index_wrong, indices_wrong, is_negative, is_outside, misplaced, not_text, offset_falls}
-use Rattle.layout_rules.specs.Rules.{prefix_wrong, prefixes_wrong, texts_wrong, view_not_text, views_misplaced}
+use Rattle.layout_rules.specs.promise.Layout.{buffer, bytes_or_none, data_place, first, is_valid_by, items, natural, offset_in, view_width}
+use Rattle.layout_rules.specs.promise.Views.{is_long}
+use Rattle.layout_rules.specs.promise.Rules.{fault, fault_if, first_below, index_wrong, indices_wrong, is_negative, is_outside, misplaced, not_text, offset_falls}
+use Rattle.layout_rules.specs.promise.Rules.{prefix_wrong, prefixes_wrong, texts_wrong, view_not_text, views_misplaced}
 use Rattle.array_laws.specs.Shown.{shown_members}
 use Rattle.array_laws.proofs.NodeParts.{below-part, other-numbers}
 use Rattle.array_laws.proofs.ShownParts.{SameBytes, funext, shown-bytes}

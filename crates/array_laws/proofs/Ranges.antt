@@ -4,10 +4,10 @@ use Rattle.std.specs.Prelude.{pos, negsuc, nat_lt, if◌then◌else◌}
 use Rattle.std.proofs.lemmas.Bool.{lt-ltb}
 use Rattle.std.proofs.lemmas.Bool.Decides.{nat_tests}
 use Rattle.std.proofs.lemmas.Nat.{pow-add, pow_pos}
-use Rattle.data_types.specs.FieldText.{in_range}
-use Rattle.data_types.specs.Packed.{le_number, meant, number_at}
-use Rattle.raw_array.specs.Members.{ArrayMembers}
-use Rattle.layout_rules.specs.Layout.{bytes, natural, offset}
+use Rattle.data_types.specs.promise.FieldText.{in_range}
+use Rattle.data_types.specs.promise.Packed.{le_number, meant, number_at}
+use Rattle.raw_array.specs.promise.Members.{ArrayMembers}
+use Rattle.layout_rules.specs.promise.Layout.{bytes, natural, offset}
 
 -- ---- a number of this many bytes
 

@@ -1,19 +1,19 @@
 -- Another column in the place of one.
 use Rattle.std.proofs.Common.{◌≡◌, ◌∙◌, ℕ, zero, suc, ◌+◌, ◌<◌, ◌≤◌, List, [], ◌∷◌, ◌++◌, length, map, get_or, take, drop, refl, ap, sym, arith}
 use Rattle.std.proofs.lemmas.List.Elements.{All-cons}
-use Rattle.data_types.specs.Value.{Value, Null}
-use Rattle.tree_model.specs.Tree.{IsLive}
-use Rattle.raw_array.specs.Members.{ArrayTree}
-use Rattle.data_types.specs.KindTrees.{KindTree}
-use Rattle.layout_rules.specs.Values.{each, field_items, row_items, rows_of, tree_items, value_at, values_of}
-use Rattle.layout_rules.specs.Walk.{ChunkOk, LayoutOk}
-use Rattle.data_types.specs.ColumnKinds.{table_type}
+use Rattle.data_types.specs.promise.Value.{Value, Null}
+use Rattle.tree_model.specs.promise.TreeParts.{IsLive}
+use Rattle.raw_array.specs.promise.Members.{ArrayTree}
+use Rattle.data_types.specs.promise.KindTrees.{KindTree}
+use Rattle.layout_rules.specs.promise.Values.{each, field_items, row_items, rows_of, tree_items, value_at, values_of}
+use Rattle.layout_rules.specs.promise.Walk.{ChunkOk, LayoutOk}
+use Rattle.data_types.specs.promise.ColumnKinds.{table_type}
 use Rattle.array_laws.proofs.PackedColumns.{like-chunk, like-rows}
 use Rattle.array_laws.proofs.PickedColumns.{map-each}
 use Rattle.array_laws.proofs.StructRows.{CutFacts, all-append, all-drop, all-take, cut-facts, lawful-append, lawful-drop, lawful-take, row-append, row-drop}
 use Rattle.array_laws.proofs.StructRows.{row-take}
 use Rattle.array_laws.proofs.WindowItems.{each-same, length-each}
-use Rattle.data_types.specs.Parts.{replaced}
+use Rattle.data_types.specs.promise.Parts.{replaced}
 use Rattle.array_laws.specs.Picking.{AreLive, Replaced, cut_children}
 use Rattle.array_laws.proofs.StructLaw.{AreLawful}
 

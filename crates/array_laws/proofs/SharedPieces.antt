@@ -1,10 +1,11 @@
 -- A window on a share of a chunk.
 use Rattle.std.proofs.Common.{◌≡◌, ◌∙◌, ℕ, ◌+◌, ◌≤◌, pos, take, drop, ap, sym, arith}
-use Rattle.tree_model.specs.Tree.{IsLive}
-use Rattle.raw_array.specs.Members.{ArrayTree, LoweredBy, ShareOf}
-use Rattle.data_types.specs.KindTrees.{KindTree}
-use Rattle.layout_rules.specs.Values.{rows_of, tree_items}
-use Rattle.layout_rules.specs.Walk.{ChunkOk, LayoutOk}
+use Rattle.tree_model.specs.promise.TreeParts.{IsLive}
+use Rattle.raw_array.specs.promise.Members.{ArrayTree}
+use Rattle.raw_array.specs.Members.{LoweredBy, ShareOf}
+use Rattle.data_types.specs.promise.KindTrees.{KindTree}
+use Rattle.layout_rules.specs.promise.Values.{rows_of, tree_items}
+use Rattle.layout_rules.specs.promise.Walk.{ChunkOk, LayoutOk}
 use Rattle.raw_array.specs.Windows.{FitsWindow, Window}
 use Rattle.array_laws.specs.Shown.{SameShown}
 use Rattle.array_laws.proofs.ShownItems.{items-shown, rows-shown}

@@ -1,11 +1,12 @@
 -- The items of a tree are those of what it shows.
 use Rattle.std.proofs.Common.{◌≡◌, ℕ, ◌+◌, List, [], ◌∷◌, Option, None, Some, refl, ap}
 use Rattle.data_types.specs.declared.kind.DataType.{DataType}
-use Rattle.tree_model.specs.Tree.{Released, Live, Trees, no_trees, more_trees, MaybeTree, absent, present, tree_list, option_tree, map_trees, map_maybe}
-use Rattle.raw_array.specs.Members.{ArrayMembers, ArrayTree}
-use Rattle.data_types.specs.KindTrees.{KindTree}
-use Rattle.layout_rules.specs.Layout.{first}
-use Rattle.layout_rules.specs.Values.{Reader, child_item, each, field_items, readers, reader_of, row_items, rows_of, tree_items, value_at, values_of}
+use Rattle.tree_model.specs.promise.TreeData.{Released, Live, Trees, no_trees, more_trees, MaybeTree, absent, present, tree_list, option_tree}
+use Rattle.tree_model.specs.Tree.{map_trees, map_maybe}
+use Rattle.raw_array.specs.promise.Members.{ArrayMembers, ArrayTree}
+use Rattle.data_types.specs.promise.KindTrees.{KindTree}
+use Rattle.layout_rules.specs.promise.Layout.{first}
+use Rattle.layout_rules.specs.promise.Values.{Reader, child_item, each, field_items, readers, reader_of, row_items, rows_of, tree_items, value_at, values_of}
 use Rattle.array_laws.specs.Shown.{shown, shown_members}
 use Rattle.array_laws.proofs.PlaceItems.{entries, same-read}
 use Rattle.array_laws.proofs.ShownParts.{funext, shown-bytes}

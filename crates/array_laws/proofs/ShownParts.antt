@@ -1,12 +1,14 @@
 -- What is shown of a tree's parts, and which trees show the same.
 use Rattle.std.proofs.Common.{◌≡◌, ℕ, zero, suc, List, [], ◌∷◌, length, map, get_or, Option, None, Some, refl, ap, sym}
 use Rattle.std.proofs.lemmas.List.{length-map}
-use Rattle.tree_model.specs.Tree.{Released, Live, Trees, no_trees, more_trees, MaybeTree, absent, present, map_tree, map_trees, map_maybe, Alike, AllAlike}
+use Rattle.tree_model.specs.promise.TreeData.{Released, Live, Trees, no_trees, more_trees, MaybeTree, absent, present}
+use Rattle.tree_model.specs.Tree.{map_tree, map_trees, map_maybe, Alike, AllAlike}
 use Rattle.tree_model.specs.Tree.{MaybeAlike}
-use Rattle.raw_array.specs.Members.{Buffer, ArrayMembers, ArrayTree, bytes_in, shared_buffer, lowered_buffer, shared_members, lowered_members, ShareOf, Lowered}
+use Rattle.raw_array.specs.promise.Members.{Buffer, ArrayMembers, ArrayTree, bytes_in}
+use Rattle.raw_array.specs.Members.{shared_buffer, lowered_buffer, shared_members, lowered_members, ShareOf, Lowered}
 use Rattle.raw_array.specs.Members.{LoweredBy, buffer_lowered_by, members_lowered_by, LikeBuffers, LikeMembers, Like}
 use Rattle.raw_array.specs.declared.array.ReleaseKind.TheVariants.{Assembled}
-use Rattle.layout_rules.specs.Layout.{buffer}
+use Rattle.layout_rules.specs.promise.Layout.{buffer}
 use Rattle.array_laws.specs.Shown.{shown_buffer, shown_members, SameShown}
 
 pub funext : {X Y : Type 0} → {f g : X → Y} → ((x : X) → f x ≡ g x) → f ≡ g

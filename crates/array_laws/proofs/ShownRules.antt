@@ -4,19 +4,20 @@ use Rattle.std.specs.Prelude.{if◌then◌else◌, is_some, nat_lt, ◌||◌}
 use Rattle.std.specs.Option.{option_or}
 use Rattle.std.specs.Ordering.{int_eq}
 use Rattle.data_types.specs.declared.kind.DataType.{DataType}
-use Rattle.tree_model.specs.Tree.{Released, Live, Trees, no_trees, more_trees, MaybeTree, absent, present, tree_list, option_tree, map_trees, map_maybe}
-use Rattle.raw_array.specs.Members.{ArrayMembers, ArrayTree}
+use Rattle.tree_model.specs.promise.TreeData.{Released, Live, Trees, no_trees, more_trees, MaybeTree, absent, present, tree_list, option_tree}
+use Rattle.tree_model.specs.Tree.{map_trees, map_maybe}
+use Rattle.raw_array.specs.promise.Members.{ArrayMembers, ArrayTree}
 use Rattle.layout_rules.specs.declared.layout.Layout.{Layout}
 use Rattle.layout_rules.specs.declared.layout.Layout.TheVariants.{NoBuffers, FixedWidth, TruthBits, ByOffsets, ListOffsets, FixedItems, ByChildren, Views}
 use Rattle.layout_rules.specs.declared.rule.LayoutRule.{LayoutRule}
 use Rattle.layout_rules.specs.declared.rule.LayoutRule.TheVariants as rules
 use Rattle.layout_rules.specs.declared.rule.Numbers.{Numbers}
-use Rattle.layout_rules.specs.Layout.{bytes_or_none, end, first, is_valid, is_valid_by, items, layout_of, natural, need, offset_in, offsets_need}
-use Rattle.layout_rules.specs.Rules.{Node, buffer_absent, buffer_short, child_short, count_wrong, fails, falls_in, fault, fault_if, first_below, in_order}
-use Rattle.layout_rules.specs.Rules.{indices_wrong, is_behind_offsets, is_negative, items_need, length_if, live_length, null_count_wrong, null_count_wrong_in}
-use Rattle.layout_rules.specs.Rules.{null_total, offsets_fall, offsets_fall_if, one_if, prefixes_wrong, short_child, texts_wrong, views_misplaced}
-use Rattle.data_types.specs.Ways.{Steps}
-use Rattle.layout_rules.specs.Walk.{fault_at, first_some, node_fault, node_of}
+use Rattle.layout_rules.specs.promise.Layout.{bytes_or_none, end, first, is_valid, is_valid_by, items, layout_of, natural, need, offset_in, offsets_need}
+use Rattle.layout_rules.specs.promise.Rules.{Node, buffer_absent, buffer_short, child_short, count_wrong, fails, falls_in, fault, fault_if, first_below, in_order}
+use Rattle.layout_rules.specs.promise.Rules.{indices_wrong, is_behind_offsets, is_negative, items_need, length_if, live_length, null_count_wrong, null_count_wrong_in}
+use Rattle.layout_rules.specs.promise.Rules.{null_total, offsets_fall, offsets_fall_if, one_if, prefixes_wrong, short_child, texts_wrong, views_misplaced}
+use Rattle.data_types.specs.promise.Ways.{Steps}
+use Rattle.layout_rules.specs.promise.Walk.{fault_at, first_some, node_fault, node_of}
 use Rattle.array_laws.specs.Shown.{shown, shown_members}
 use Rattle.array_laws.proofs.PlaceRules.{below-same, each-shown, indices-by_place, places-by_place, prefixes-by_place, texts-by_place}
 use Rattle.array_laws.proofs.ShownParts.{funext, shown-bytes}

@@ -3,14 +3,15 @@ use Rattle.std.proofs.Common.{◌≡◌, ◌∙◌, ℕ, suc, pos, List, [], ◌
 use Rattle.std.specs.Prelude.{if◌then◌else◌, nat_lt}
 use Rattle.std.specs.Option.{option_or}
 use Rattle.data_types.specs.declared.kind.DataType.{DataType}
-use Rattle.tree_model.specs.Tree.{Released, Live, Trees, no_trees, more_trees, MaybeTree, absent, present, tree_list, option_tree, map_trees, map_maybe}
-use Rattle.raw_array.specs.Members.{ArrayMembers, ArrayTree}
+use Rattle.tree_model.specs.promise.TreeData.{Released, Live, Trees, no_trees, more_trees, MaybeTree, absent, present, tree_list, option_tree}
+use Rattle.tree_model.specs.Tree.{map_trees, map_maybe}
+use Rattle.raw_array.specs.promise.Members.{ArrayMembers, ArrayTree}
 use Rattle.layout_rules.specs.declared.rule.LayoutRule.TheVariants as rules
-use Rattle.data_types.specs.KindTrees.{KindTree}
-use Rattle.layout_rules.specs.Layout.{items}
-use Rattle.data_types.specs.Ways.{Steps, dictionary_step}
-use Rattle.layout_rules.specs.Walk.{ChunkOk, LayoutOk, Walk, first_chunk_fault, first_fault, first_some, is_table, root_fault}
-use Rattle.layout_rules.specs.Walk.{top_fault, visit_fault, visits, walk_below, walk_children, walk_dictionary, walk_of, walks_of}
+use Rattle.data_types.specs.promise.KindTrees.{KindTree}
+use Rattle.layout_rules.specs.promise.Layout.{items}
+use Rattle.data_types.specs.promise.Ways.{Steps, dictionary_step}
+use Rattle.layout_rules.specs.promise.Walk.{ChunkOk, LayoutOk, Walk, first_chunk_fault, first_fault, first_some, is_table, root_fault}
+use Rattle.layout_rules.specs.promise.Walk.{top_fault, visit_fault, visits, walk_below, walk_children, walk_dictionary, walk_of, walks_of}
 use Rattle.layout_rules.proofs.Walks.{first_some-append}
 use Rattle.layout_rules.proofs.Lawful.{first_fault-lawful, lawful-first_fault}
 use Rattle.array_laws.specs.Shown.{SameShown, shown, shown_members}

@@ -1,11 +1,11 @@
 -- What the layouts say of a node with the same bytes.
 use Rattle.std.proofs.Common.{◌≡◌, ℕ, ◌-◌, ◌*◌, Bool, true, false, length, None, refl, ap}
 use Rattle.std.specs.Prelude.{if◌then◌else◌, nat_lt}
-use Rattle.raw_array.specs.Members.{ArrayMembers}
+use Rattle.raw_array.specs.promise.Members.{ArrayMembers}
 use Rattle.layout_rules.specs.declared.layout.Layout.{Layout}
 use Rattle.layout_rules.specs.declared.layout.Layout.TheVariants.{NoBuffers, FixedWidth, TruthBits, ByOffsets, ListOffsets, FixedItems, ByChildren, Views}
-use Rattle.layout_rules.specs.Layout.{buffer_count, bytes_or_none, named_need, offset, offset_in}
-use Rattle.layout_rules.specs.Rules.{null_count_wrong, null_count_wrong_in}
+use Rattle.layout_rules.specs.promise.Layout.{buffer_count, bytes_or_none, named_need, offset, offset_in}
+use Rattle.layout_rules.specs.promise.Rules.{null_count_wrong, null_count_wrong_in}
 use Rattle.array_laws.proofs.PlaceRules.{Buffers, size_at}
 use Rattle.array_laws.proofs.ShownParts.{SameBytes}
 

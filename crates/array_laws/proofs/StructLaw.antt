@@ -6,24 +6,25 @@ use Rattle.std.specs.Ordering.{int_eq}
 use Rattle.std.specs.List.{All}
 use Rattle.std.proofs.lemmas.Bool.{eq-eqb, le-ltb}
 use Rattle.std.proofs.lemmas.List.Elements.{All-head, All-tail}
-use Rattle.data_types.specs.Table.{Row}
+use Rattle.data_types.specs.promise.Table.{Row}
 use Rattle.data_types.specs.declared.kind.DataType.TheVariants as kinds
-use Rattle.tree_model.specs.Tree.{IsLive, Released, Live, absent, trees, tree_list}
+use Rattle.tree_model.specs.promise.TreeParts.{IsLive}
+use Rattle.tree_model.specs.promise.TreeData.{Released, Live, absent, trees, tree_list}
 use Rattle.tree_model.proofs.Lists.{tree_list-trees}
-use Rattle.raw_array.specs.Members.{ArrayMembers, ArrayTree}
+use Rattle.raw_array.specs.promise.Members.{ArrayMembers, ArrayTree}
 use Rattle.raw_array.specs.declared.array.ReleaseKind.TheVariants.{Assembled}
-use Rattle.data_types.specs.KindTrees.{KindTree}
-use Rattle.layout_rules.specs.Layout.{natural}
-use Rattle.layout_rules.specs.Rules.{child_short, count_wrong, fault_if, live_length, null_total, short_child}
-use Rattle.layout_rules.specs.Values.{each, field_items, readers, row_items, rows_of, tree_items, value_at}
-use Rattle.data_types.specs.Ways.{Steps}
-use Rattle.layout_rules.specs.Walk.{ChunkOk, LayoutOk, first_some, node_fault, root_fault, top_fault, visit_fault, visits, walk_children, walks_of}
+use Rattle.data_types.specs.promise.KindTrees.{KindTree}
+use Rattle.layout_rules.specs.promise.Layout.{natural}
+use Rattle.layout_rules.specs.promise.Rules.{child_short, count_wrong, fault_if, live_length, null_total, short_child}
+use Rattle.layout_rules.specs.promise.Values.{each, field_items, readers, row_items, rows_of, tree_items, value_at}
+use Rattle.data_types.specs.promise.Ways.{Steps}
+use Rattle.layout_rules.specs.promise.Walk.{ChunkOk, LayoutOk, first_some, node_fault, root_fault, top_fault, visit_fault, visits, walk_children, walks_of}
 use Rattle.layout_rules.specs.declared.rule.LayoutRule.TheVariants as rules
 use Rattle.layout_rules.proofs.Walks.{first_some-append}
 use Rattle.layout_rules.proofs.Lawful.{first_fault-lawful, lawful-first_fault}
 use Rattle.layout_rules.proofs.ReadWithin.{any-path, live-of}
-use Rattle.data_types.specs.ColumnKinds.{table_type}
-use Rattle.layout_rules.specs.Rules.{in_order}
+use Rattle.data_types.specs.promise.ColumnKinds.{table_type}
+use Rattle.layout_rules.specs.promise.Rules.{in_order}
 use Rattle.layout_rules.proofs.NamedRules.{AreMet, none-fails}
 use Rattle.array_laws.proofs.NodeParts.{both-none, no-fault}
 use Rattle.array_laws.proofs.WindowItems.{each-same}

@@ -2,13 +2,14 @@
 use Rattle.std.proofs.Common.{◌≡◌, ℕ, ◌^◌, ◌<◌, ◌≤◌, ℤ, pos, List, length, get_or, arith}
 use Rattle.std.specs.Prelude.{◌≤ℤ◌}
 use Rattle.data_types.specs.declared.kind.DataType.TheVariants as kinds
-use Rattle.tree_model.specs.Tree.{IsLive, Released, Live, Trees, MaybeTree, absent, trees, child_at, children_of}
-use Rattle.raw_array.specs.Members.{ArrayMembers, ArrayTree, members_of}
-use Rattle.data_types.specs.KindTrees.{KindTree}
-use Rattle.layout_rules.specs.Layout.{end, natural}
-use Rattle.layout_rules.specs.Values.{tree_items}
-use Rattle.layout_rules.specs.Walk.{LayoutOk}
-use Rattle.data_types.specs.ColumnKinds.{table_type}
+use Rattle.tree_model.specs.promise.TreeParts.{IsLive, child_at, children_of}
+use Rattle.tree_model.specs.promise.TreeData.{Released, Live, Trees, MaybeTree, absent, trees}
+use Rattle.raw_array.specs.promise.Members.{ArrayMembers, ArrayTree, members_of}
+use Rattle.data_types.specs.promise.KindTrees.{KindTree}
+use Rattle.layout_rules.specs.promise.Layout.{end, natural}
+use Rattle.layout_rules.specs.promise.Values.{tree_items}
+use Rattle.layout_rules.specs.promise.Walk.{LayoutOk}
+use Rattle.data_types.specs.promise.ColumnKinds.{table_type}
 use Rattle.array_laws.proofs.ChunkParts.{struct-facts}
 use Rattle.array_laws.proofs.LawfulNodes.{lawful-live}
 

@@ -4,21 +4,22 @@ use Rattle.std.proofs.Common.{arith}
 use Rattle.std.specs.Prelude.{if◌then◌else◌}
 use Rattle.std.specs.List.{All}
 use Rattle.std.proofs.lemmas.List.Elements.{All-nil, All-cons, All-head, All-tail}
-use Rattle.data_types.specs.Value.{Value, Null, Fields, values}
+use Rattle.data_types.specs.promise.Value.{Value, Null, Fields, values}
 use Rattle.data_types.specs.declared.kind.DataType.TheVariants as kinds
-use Rattle.tree_model.specs.Tree.{Released, Live, Trees, MaybeTree, absent, trees, tree_list}
-use Rattle.raw_array.specs.Members.{ArrayMembers, ArrayTree, members_of}
-use Rattle.data_types.specs.KindTrees.{KindTree}
-use Rattle.layout_rules.specs.Layout.{first, items, is_valid}
-use Rattle.layout_rules.specs.Values.{field_items, readers, row_items, tree_items, value_at}
-use Rattle.layout_rules.specs.Walk.{LayoutOk}
-use Rattle.data_types.specs.ColumnKinds.{table_type}
+use Rattle.tree_model.specs.promise.TreeData.{Released, Live, Trees, MaybeTree, absent, trees, tree_list}
+use Rattle.raw_array.specs.promise.Members.{ArrayMembers, ArrayTree, members_of}
+use Rattle.data_types.specs.promise.KindTrees.{KindTree}
+use Rattle.layout_rules.specs.promise.Layout.{first, items, is_valid}
+use Rattle.layout_rules.specs.promise.Values.{field_items, readers, row_items, tree_items, value_at}
+use Rattle.layout_rules.specs.promise.Walk.{LayoutOk}
+use Rattle.data_types.specs.promise.ColumnKinds.{table_type}
 use Rattle.raw_array.specs.Windows.{Window}
 use Rattle.array_laws.proofs.ChunkParts.{struct-facts}
 use Rattle.array_laws.proofs.PickedColumns.{AreCut, facts-cut}
 use Rattle.array_laws.proofs.LawfulNodes.{lawful-live}
 use Rattle.array_laws.proofs.WindowTree.{window-item, window-items, window-lawful}
-use Rattle.data_types.specs.Parts.{IsFields, fields_of, value_list}
+use Rattle.data_types.specs.promise.Parts.{fields_of, value_list}
+use Rattle.data_types.specs.Parts.{IsFields}
 use Rattle.array_laws.specs.Picking.{AreLive, cut_children}
 use Rattle.array_laws.proofs.StructLaw.{AreLawful, readers-are}
 

@@ -2,20 +2,21 @@
 use Rattle.std.proofs.Common.{◌≡◌, ◌∙◌, ℕ, zero, suc, ◌+◌, ◌<◌, List, [], ◌∷◌, ◌++◌, length, map, get_or, take, drop, refl, ap, sym, subst, arith}
 use Rattle.std.specs.List.{All}
 use Rattle.std.proofs.lemmas.List.{length-map}
-use Rattle.data_types.specs.ColumnView.{members}
-use Rattle.data_types.specs.Table.{Column, Columns as StructOf, Members}
-use Rattle.data_types.specs.Value.{Null}
-use Rattle.tree_model.specs.Tree.{Released}
-use Rattle.raw_array.specs.Members.{ArrayTree}
-use Rattle.layout_rules.specs.Values.{rows_of}
-use Rattle.layout_rules.specs.Walk.{ChunkOk}
-use Rattle.data_types.specs.KindTrees.{KindTree}
-use Rattle.data_types.specs.ColumnKinds.{table_type, type_of_column, type_of_columns, type_of_kind, types_of_columns}
+use Rattle.data_types.specs.promise.ColumnView.{members}
+use Rattle.data_types.specs.promise.Table.{Column, Columns as StructOf, Members}
+use Rattle.data_types.specs.promise.Value.{Null}
+use Rattle.tree_model.specs.promise.TreeData.{Released}
+use Rattle.raw_array.specs.promise.Members.{ArrayTree}
+use Rattle.layout_rules.specs.promise.Values.{rows_of}
+use Rattle.layout_rules.specs.promise.Walk.{ChunkOk}
+use Rattle.data_types.specs.promise.KindTrees.{KindTree}
+use Rattle.data_types.specs.promise.ColumnKinds.{table_type, type_of_column, type_of_columns, type_of_kind, types_of_columns}
 use Rattle.arr_move.specs.TreeActs.{Columns, FitParentWindow, InRange}
 use Rattle.array_laws.proofs.ColumnForm.{chunk-of, chunk-packed, fit-of, range-of, rows-packed, rows-picked}
 use Rattle.array_laws.proofs.ColumnTypes.{struct-type, type-at, type-fields, types-live, types-picked}
 use Rattle.array_laws.proofs.PackedColumns.{unpack-chunk, unpack-rows}
-use Rattle.data_types.specs.Parts.{AreWithin, IsFields, member_columns, packed, packed_columns, picked, unpacked, unpacked_columns}
+use Rattle.data_types.specs.promise.Parts.{member_columns, packed, packed_columns, picked, unpacked, unpacked_columns}
+use Rattle.data_types.specs.Parts.{AreWithin, IsFields}
 use Rattle.array_laws.specs.Picking.{AreLive, Packed, Unpacked, packed_types, unpacked_types}
 
 -- ---- the types of the new columns

@@ -2,12 +2,13 @@
 use Rattle.std.proofs.Common.{◌≡◌, ◌∙◌, ℕ, zero, suc, ◌+◌, ◌-◌, ◌<◌, ◌≤◌, ℤ, pos, negsuc, false, ◌∷◌, length, take, drop, refl, ap, sym, arith}
 use Rattle.std.specs.Prelude.{◌+ℤ◌}
 use Rattle.data_types.specs.declared.kind.DataType.{DataType}
-use Rattle.tree_model.specs.Tree.{Live, Trees, MaybeTree, tree_list, option_tree}
-use Rattle.raw_array.specs.Members.{ArrayMembers, ArrayTree, nulls_in_part}
-use Rattle.data_types.specs.KindTrees.{KindTree}
-use Rattle.layout_rules.specs.Layout.{first, items, natural}
-use Rattle.layout_rules.specs.Rules.{is_negative}
-use Rattle.layout_rules.specs.Values.{each, field_items, readers, reader_of, row_items, rows_of, value_at, values_of}
+use Rattle.tree_model.specs.promise.TreeData.{Live, Trees, MaybeTree, tree_list, option_tree}
+use Rattle.raw_array.specs.promise.Members.{ArrayMembers, ArrayTree}
+use Rattle.raw_array.specs.Members.{nulls_in_part}
+use Rattle.data_types.specs.promise.KindTrees.{KindTree}
+use Rattle.layout_rules.specs.promise.Layout.{first, items, natural}
+use Rattle.layout_rules.specs.promise.Rules.{is_negative}
+use Rattle.layout_rules.specs.promise.Values.{each, field_items, readers, reader_of, row_items, rows_of, value_at, values_of}
 use Rattle.array_laws.proofs.PlaceItems.{same-read}
 use Rattle.array_laws.proofs.PlaceRules.{IsPart}
 use Rattle.array_laws.proofs.WindowNode.{IsWindow}

@@ -4,15 +4,16 @@ use Rattle.std.proofs.Common.{Option, None, Some, refl, ap, sym, arith}
 use Rattle.std.specs.Prelude.{if◌then◌else◌, is_some, nat_lt, ◌||◌}
 use Rattle.std.specs.Ordering.{int_eq}
 use Rattle.std.proofs.lemmas.Bool.{le-ltb}
-use Rattle.raw_array.specs.Members.{ArrayMembers, ArrayTree, nulls_in_part}
+use Rattle.raw_array.specs.promise.Members.{ArrayMembers, ArrayTree}
+use Rattle.raw_array.specs.Members.{nulls_in_part}
 use Rattle.layout_rules.specs.declared.layout.Layout.{Layout}
 use Rattle.layout_rules.specs.declared.layout.Layout.TheVariants.{NoBuffers, FixedWidth, TruthBits, ByOffsets, ListOffsets, FixedItems, ByChildren, Views}
 use Rattle.layout_rules.specs.declared.rule.Numbers.{Numbers}
-use Rattle.layout_rules.specs.Layout.{buffer, bytes, bytes_or_none, data_need, end, first, is_valid, is_valid_by, items, layout_of, natural, need, offset}
-use Rattle.layout_rules.specs.Layout.{view_width, offsets_need}
-use Rattle.layout_rules.specs.Rules.{Node, buffer_absent, buffer_short, child_short, fault, fault_if, first_below, indices_wrong, is_behind_offsets}
-use Rattle.layout_rules.specs.Rules.{is_negative, items_need, live_length, null_count_wrong, null_count_wrong_in, null_total, offset_falls, offsets_fall}
-use Rattle.layout_rules.specs.Rules.{offsets_fall_if, prefixes_wrong, views_misplaced, short_child, texts_wrong, count_wrong, length_if, window_limit}
+use Rattle.layout_rules.specs.promise.Layout.{buffer, bytes, bytes_or_none, data_need, end, first, is_valid, is_valid_by, items, layout_of, natural, need, offset}
+use Rattle.layout_rules.specs.promise.Layout.{view_width, offsets_need}
+use Rattle.layout_rules.specs.promise.Rules.{Node, buffer_absent, buffer_short, child_short, fault, fault_if, first_below, indices_wrong, is_behind_offsets}
+use Rattle.layout_rules.specs.promise.Rules.{is_negative, items_need, live_length, null_count_wrong, null_count_wrong_in, null_total, offset_falls, offsets_fall}
+use Rattle.layout_rules.specs.promise.Rules.{offsets_fall_if, prefixes_wrong, views_misplaced, short_child, texts_wrong, count_wrong, length_if, window_limit}
 use Rattle.layout_rules.proofs.Lawful.{left-none, right-none}
 use Rattle.layout_rules.proofs.Long.{long-bytes}
 use Rattle.layout_rules.proofs.TextData.{not_zero}

@@ -6,19 +6,21 @@ use Rattle.std.specs.Ordering.{int_eq}
 use Rattle.std.proofs.Math.Seq.{take-length}
 use Rattle.std.proofs.lemmas.Bool.Decides.{Decides-int_eq}
 use Rattle.data_types.specs.declared.kind.DataType.{DataType}
-use Rattle.data_types.specs.Value.{Null}
-use Rattle.tree_model.specs.Tree.{IsLive, Released, Live, Trees, MaybeTree}
-use Rattle.raw_array.specs.Members.{ArrayMembers, ArrayTree, members_of, windowed}
+use Rattle.data_types.specs.promise.Value.{Null}
+use Rattle.tree_model.specs.promise.TreeParts.{IsLive}
+use Rattle.tree_model.specs.promise.TreeData.{Released, Live, Trees, MaybeTree}
+use Rattle.raw_array.specs.promise.Members.{ArrayMembers, ArrayTree, members_of}
+use Rattle.raw_array.specs.Members.{windowed}
 use Rattle.raw_array.specs.Windows.{FitsWindow, Window}
-use Rattle.data_types.specs.KindTrees.{KindTree}
-use Rattle.layout_rules.specs.Layout.{first, items, natural}
-use Rattle.layout_rules.specs.Rules.{null_total}
-use Rattle.layout_rules.specs.Values.{each, row_items, rows_of, tree_items, value_at, values_of}
-use Rattle.layout_rules.specs.Walk.{ChunkOk, LayoutOk, first_some, is_table, node_fault, root_fault, top_fault, visit_fault, walk_below, walk_of, walks_of}
+use Rattle.data_types.specs.promise.KindTrees.{KindTree}
+use Rattle.layout_rules.specs.promise.Layout.{first, items, natural}
+use Rattle.layout_rules.specs.promise.Rules.{null_total}
+use Rattle.layout_rules.specs.promise.Values.{each, row_items, rows_of, tree_items, value_at, values_of}
+use Rattle.layout_rules.specs.promise.Walk.{ChunkOk, LayoutOk, first_some, is_table, node_fault, root_fault, top_fault, visit_fault, walk_below, walk_of, walks_of}
 use Rattle.layout_rules.specs.declared.rule.LayoutRule.TheVariants as rules
 use Rattle.layout_rules.proofs.Lawful.{first_fault-lawful}
 use Rattle.array_laws.proofs.LawfulNodes.{below-lawful, lawful-end, lawful-live, lawful-node, length-items, node, not-before, offset-first}
-use Rattle.layout_rules.specs.Rules.{in_order}
+use Rattle.layout_rules.specs.promise.Rules.{in_order}
 use Rattle.layout_rules.proofs.NamedRules.{none-fails}
 use Rattle.array_laws.proofs.NodeParts.{both-none}
 use Rattle.array_laws.proofs.WindowItems.{each-same, length-each, part-each, window-part, window_of, window-rows, window-value, window-values}

@@ -1,9 +1,9 @@
 -- The pieces of a chunk that workers read, joined.
 use Rattle.std.proofs.Common.{◌≡◌, ◌∙◌, ℕ, zero, suc, ◌+◌, ◌-◌, ◌<◌, ◌≤◌, ◌++◌, take, drop, refl, ap, sym, arith}
-use Rattle.raw_array.specs.Members.{ArrayTree}
-use Rattle.data_types.specs.KindTrees.{KindTree}
-use Rattle.layout_rules.specs.Values.{row_items, rows_of, tree_items}
-use Rattle.layout_rules.specs.Walk.{ChunkOk, LayoutOk}
+use Rattle.raw_array.specs.promise.Members.{ArrayTree}
+use Rattle.data_types.specs.promise.KindTrees.{KindTree}
+use Rattle.layout_rules.specs.promise.Values.{row_items, rows_of, tree_items}
+use Rattle.layout_rules.specs.promise.Walk.{ChunkOk, LayoutOk}
 use Rattle.array_laws.specs.Pieces.{border, joined_pieces, piece, rows_of_pieces}
 use Rattle.array_laws.proofs.JoinedPieces.{piece-fits, pieces-whole}
 use Rattle.array_laws.proofs.SharedPieces.{piece-chunk, piece-rows}

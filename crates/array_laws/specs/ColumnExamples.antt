@@ -1,11 +1,11 @@
 -- A chunk with columns taken of it, and a struct column with a null.
 use Rattle.std.specs.Prelude.{ℕ, pos, negsuc, true, List, [], ◌∷◌, None}
 use Rattle.data_types.specs.declared.kind.DataType.TheVariants as kinds
-use Rattle.data_types.specs.Value.{Value, Fields, values}
-use Rattle.tree_model.specs.Tree.{Live, no_trees, absent}
-use Rattle.raw_array.specs.Members.{ArrayTree}
-use Rattle.data_types.specs.KindTrees.{KindTree}
-use Rattle.data_types.specs.ColumnKinds.{table_type}
+use Rattle.data_types.specs.promise.Value.{Value, Fields, values}
+use Rattle.tree_model.specs.promise.TreeData.{Live, no_trees, absent}
+use Rattle.raw_array.specs.promise.Members.{ArrayTree}
+use Rattle.data_types.specs.promise.KindTrees.{KindTree}
+use Rattle.data_types.specs.promise.ColumnKinds.{table_type}
 use Rattle.array_laws.specs.Examples.{bytes, chunk, n, shorts, struct, types}
 use Rattle.array_laws.specs.Picking.{Packed, packed_types}
 

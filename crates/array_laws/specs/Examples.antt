@@ -3,15 +3,15 @@
 -- layout").
 use Rattle.std.specs.Prelude.{◌≡◌, ℕ, ℤ, pos, negsuc, true, false, List, [], ◌∷◌, ◌++◌, Option, None, Some}
 use Rattle.data_types.specs.declared.kind.DataType.TheVariants as kinds
-use Rattle.data_types.specs.Table.{Row}
-use Rattle.data_types.specs.Value.{Value, Bytes, Whole}
-use Rattle.tree_model.specs.Tree.{Live, no_trees, absent, trees}
-use Rattle.raw_array.specs.Members.{Buffer, ArrayTree}
+use Rattle.data_types.specs.promise.Table.{Row}
+use Rattle.data_types.specs.promise.Value.{Value, Bytes, Whole}
+use Rattle.tree_model.specs.promise.TreeData.{Live, no_trees, absent, trees}
+use Rattle.raw_array.specs.promise.Members.{Buffer, ArrayTree}
 use Rattle.raw_array.specs.declared.array.ReleaseKind.TheVariants.{Assembled, Exported}
-use Rattle.data_types.specs.KindTrees.{KindTree}
-use Rattle.layout_rules.specs.Values.{rows_of}
-use Rattle.layout_rules.specs.Walk.{first_chunk_fault}
-use Rattle.data_types.specs.ColumnKinds.{table_type}
+use Rattle.data_types.specs.promise.KindTrees.{KindTree}
+use Rattle.layout_rules.specs.promise.Values.{rows_of}
+use Rattle.layout_rules.specs.promise.Walk.{first_chunk_fault}
+use Rattle.data_types.specs.promise.ColumnKinds.{table_type}
 
 abbrev pub bytes : List ℕ → Option Buffer
 bytes bs = Some (record { bytes = bs; amount = 7 })

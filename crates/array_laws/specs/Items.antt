@@ -1,9 +1,9 @@
 -- Values that are read of an array, wherever they go.
 use Rattle.std.specs.Prelude.{◌≡◌, ◌≢◌, ◌⊎◌, ◌<◌, ℕ, List, length, get_or}
-use Rattle.data_types.specs.Value.{Value, Null}
-use Rattle.raw_array.specs.Members.{ArrayTree}
-use Rattle.data_types.specs.KindTrees.{KindTree}
-use Rattle.layout_rules.specs.Values.{tree_items, value_at}
+use Rattle.data_types.specs.promise.Value.{Value, Null}
+use Rattle.raw_array.specs.promise.Members.{ArrayTree}
+use Rattle.data_types.specs.promise.KindTrees.{KindTree}
+use Rattle.layout_rules.specs.promise.Values.{tree_items, value_at}
 
 -- a value is an item of an array's window, or null
 abbrev pub IsItemOf : KindTree → ArrayTree → Value → Type 0

@@ -1,12 +1,13 @@
 -- Trees of columns that are picked, packed, unpacked and replaced ("The Arrow C Data Interface", "Moving child arrays"; "Arrow
 -- Columnar Format", "Struct Layout").
 use Rattle.std.specs.Prelude.{◌<◌, ◌+◌, ℕ, List, [], ◌∷◌, ◌++◌, get_or, length, map, take, drop}
-use Rattle.data_types.specs.Parts.{picked, replaced}
-use Rattle.tree_model.specs.Tree.{IsLive, Released, Live, absent, trees, children_of}
-use Rattle.raw_array.specs.Members.{ArrayTree, members_of}
+use Rattle.data_types.specs.promise.Parts.{picked, replaced}
+use Rattle.tree_model.specs.promise.TreeParts.{IsLive, children_of}
+use Rattle.tree_model.specs.promise.TreeData.{Released, Live, absent, trees}
+use Rattle.raw_array.specs.promise.Members.{ArrayTree, members_of}
 use Rattle.raw_array.specs.Windows.{Window}
-use Rattle.data_types.specs.KindTrees.{KindTree}
-use Rattle.data_types.specs.ColumnKinds.{table_type}
+use Rattle.data_types.specs.promise.KindTrees.{KindTree}
+use Rattle.data_types.specs.promise.ColumnKinds.{table_type}
 use Rattle.arr_move.specs.TreeActs.{Columns, cut, struct_members}
 
 -- no type is released

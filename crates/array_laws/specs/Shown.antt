@@ -1,7 +1,7 @@
 -- What a reader sees of a tree of arrays: all of it but how much of a block each buffer's hold has, and how a node is released.
 use Rattle.std.specs.Prelude.{◌≡◌, map, Option, None, Some}
 use Rattle.tree_model.specs.Tree.{map_tree}
-use Rattle.raw_array.specs.Members.{Buffer, ArrayMembers, ArrayTree}
+use Rattle.raw_array.specs.promise.Members.{Buffer, ArrayMembers, ArrayTree}
 use Rattle.raw_array.specs.declared.array.ReleaseKind.TheVariants.{Assembled}
 
 abbrev pub shown_buffer : Option Buffer → Option Buffer

@@ -1,11 +1,11 @@
 //! The laws' trees at a small chunk, computed, so that a wrong definition shows in numbers.
 ghost use Rattle.std.specs.Prelude.{◌≡◌, [], ◌∷◌};
-ghost use Rattle.data_types.specs.Parts.{picked};
-ghost use Rattle.data_types.specs.Value.{Null};
-ghost use Rattle.tree_model.specs.Tree.{Released};
-ghost use Rattle.layout_rules.specs.Values.{rows_of};
+ghost use Rattle.data_types.specs.promise.Parts.{picked};
+ghost use Rattle.data_types.specs.promise.Value.{Null};
+ghost use Rattle.tree_model.specs.promise.TreeData.{Released};
+ghost use Rattle.layout_rules.specs.promise.Values.{rows_of};
 ghost use Rattle.arr_move.specs.TreeActs.{Columns};
-ghost use Rattle.data_types.specs.ColumnKinds.{table_type};
+ghost use Rattle.data_types.specs.promise.ColumnKinds.{table_type};
 ghost use Rattle.array_laws.specs.Examples.{HasRows, chunk, hello, hi, n, shorts, three, types};
 ghost use Rattle.array_laws.specs.ColumnExamples.{held, holed, holed_types, one_held, pack, types_packed};
 ghost use Rattle.array_laws.specs.Picking.{Replaced, Unpacked, unpacked_types};

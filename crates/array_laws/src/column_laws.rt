@@ -1,16 +1,20 @@
 //! Laws on the columns of trees: picked, packed, unpacked and replaced.
 ghost use Rattle.std.specs.Prelude.{◌≡◌, ◌≤◌, ◌<◌, ◌+◌, ℕ, List, map, length, get_or, All, ◌++◌};
-ghost use Rattle.data_types.specs.ColumnView.{members};
-ghost use Rattle.data_types.specs.Parts.{AreWithin, IsFields, member_columns, packed, packed_columns, picked, replaced, unpacked, unpacked_columns};
-ghost use Rattle.data_types.specs.Table.{Column, Columns as StructOf, Members};
-ghost use Rattle.data_types.specs.Value.{Null};
-ghost use Rattle.tree_model.specs.Tree.{Depth, IsLive, Released};
-ghost use Rattle.raw_array.specs.Members.{ArrayTree, Cost};
-ghost use Rattle.data_types.specs.KindTrees.{KindTree, NodesOk};
-ghost use Rattle.layout_rules.specs.Values.{rows_of, tree_items, values_of};
-ghost use Rattle.layout_rules.specs.Walk.{ChunkOk, LayoutOk};
+ghost use Rattle.data_types.specs.promise.ColumnView.{members};
+ghost use Rattle.data_types.specs.promise.Parts.{member_columns, packed, packed_columns, picked, replaced, unpacked, unpacked_columns};
+ghost use Rattle.data_types.specs.Parts.{AreWithin, IsFields};
+ghost use Rattle.data_types.specs.promise.Table.{Column, Columns as StructOf, Members};
+ghost use Rattle.data_types.specs.promise.Value.{Null};
+ghost use Rattle.tree_model.specs.promise.TreeParts.{IsLive};
+ghost use Rattle.tree_model.specs.promise.TreeData.{Released};
+ghost use Rattle.tree_model.specs.Tree.{Depth};
+ghost use Rattle.raw_array.specs.promise.Members.{ArrayTree, Cost};
+ghost use Rattle.data_types.specs.promise.KindTrees.{KindTree};
+ghost use Rattle.data_types.specs.KindTrees.{NodesOk};
+ghost use Rattle.layout_rules.specs.promise.Values.{rows_of, tree_items, values_of};
+ghost use Rattle.layout_rules.specs.promise.Walk.{ChunkOk, LayoutOk};
 ghost use Rattle.arr_move.specs.TreeActs.{Columns, Distinct, FitParentWindow, InRange};
-ghost use Rattle.data_types.specs.ColumnKinds.{table_type, type_of_columns, type_of_kind, types_of_columns};
+ghost use Rattle.data_types.specs.promise.ColumnKinds.{table_type, type_of_columns, type_of_kind, types_of_columns};
 ghost use Rattle.array_laws.specs.Picking.{AreLive, Packed, Replaced, Unpacked, packed_types, unpacked_types};
 
 /// A law: columns of a lawful struct can be taken: each pick is the place of a child, which has the items of the struct's

@@ -1,17 +1,21 @@
 //! Laws on trees of arrays: what a reader sees of them, and windows on them.
 ghost use Rattle.std.specs.Prelude.{◌≡◌, ◌≤◌, ◌<◌, ◌≤ℤ◌, ◌+◌, ◌-◌, ℕ, pos, List, take, drop, length, get_or, ◌++◌};
-ghost use Rattle.data_types.specs.Table.{Row};
-ghost use Rattle.tree_model.specs.Tree.{Depth, IsLive, Released, child_at, children_of};
-ghost use Rattle.raw_array.specs.Members.{ArrayTree, Like, Lowered, LoweredBy, ShareOf, members_of};
-ghost use Rattle.data_types.specs.KindTrees.{KindTree, NodesOk};
-ghost use Rattle.layout_rules.specs.Layout.{end};
-ghost use Rattle.layout_rules.specs.Values.{rows_of, tree_items, values_of};
-ghost use Rattle.layout_rules.specs.Walk.{ChunkOk, LayoutOk, first_chunk_fault, first_fault};
+ghost use Rattle.data_types.specs.promise.Table.{Row};
+ghost use Rattle.tree_model.specs.promise.TreeParts.{IsLive, child_at, children_of};
+ghost use Rattle.tree_model.specs.promise.TreeData.{Released};
+ghost use Rattle.tree_model.specs.Tree.{Depth};
+ghost use Rattle.raw_array.specs.promise.Members.{ArrayTree, members_of};
+ghost use Rattle.raw_array.specs.Members.{Like, Lowered, LoweredBy, ShareOf};
+ghost use Rattle.data_types.specs.promise.KindTrees.{KindTree};
+ghost use Rattle.data_types.specs.KindTrees.{NodesOk};
+ghost use Rattle.layout_rules.specs.promise.Layout.{end};
+ghost use Rattle.layout_rules.specs.promise.Values.{rows_of, tree_items, values_of};
+ghost use Rattle.layout_rules.specs.promise.Walk.{ChunkOk, LayoutOk, first_chunk_fault, first_fault};
 ghost use Rattle.raw_array.specs.Windows.{FitsWindow, Window};
-ghost use Rattle.data_types.specs.ColumnKinds.{table_type};
+ghost use Rattle.data_types.specs.promise.ColumnKinds.{table_type};
 ghost use Rattle.array_laws.specs.Shown.{SameShown};
 ghost use Rattle.array_laws.specs.Pieces.{border, joined_pieces, piece, rows_of_pieces};
-ghost use Rattle.layout_rules.specs.Rules.{window_limit};
+ghost use Rattle.layout_rules.specs.promise.Rules.{window_limit};
 
 /// A law: faults, values and rows are those of what a tree shows.
 pub fn trees_that_show_the_same()

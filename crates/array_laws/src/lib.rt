@@ -5,7 +5,7 @@
 //! - On columns of a chunk, which stages need: columns that are picked, packed, unpacked or replaced make a chunk of the
 //!   new types. Its rows are the old rows with the same done to each.
 //! - [`lawful_values_fit`]: the values of a lawful array of a flat type without a dictionary have an encoding
-//!   ([`Fits`](../../col_build/specs/Encoding.antt)), and so has any list of its items, as far as offsets reach their
+//!   ([`Fits`](../../col_build/specs/promise/Encoding.antt)), and so has any list of its items, as far as offsets reach their
 //!   bytes. So a column can be made of them.
 //!
 //! The definitions are in `specs`: `Shown` (what a reader sees of a tree), `Pieces`, `Picking` (columns that are moved),

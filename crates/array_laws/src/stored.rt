@@ -1,9 +1,9 @@
 //! The range of the numbers in a buffer.
 ghost use Rattle.std.specs.Prelude.{◌*◌, ◌<◌, ◌^◌, ℕ};
-ghost use Rattle.data_types.specs.Packed.{number_at};
-ghost use Rattle.tree_model.specs.Tree.{IsLive};
-ghost use Rattle.raw_array.specs.Members.{members_of};
-ghost use Rattle.layout_rules.specs.Layout.{bytes};
+ghost use Rattle.data_types.specs.promise.Packed.{number_at};
+ghost use Rattle.tree_model.specs.promise.TreeParts.{IsLive};
+ghost use Rattle.raw_array.specs.promise.Members.{members_of};
+ghost use Rattle.layout_rules.specs.promise.Layout.{bytes};
 
 use raw_array::RawArray;
 

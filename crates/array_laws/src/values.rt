@@ -1,17 +1,19 @@
 //! The values of a lawful array.
 ghost use Rattle.std.specs.Prelude.{◌≡◌, ◌+◌, ◌<◌, ◌≤◌, ℕ, List, [], length, map, true, None, All};
-ghost use Rattle.data_types.specs.FieldText.{form_of};
-ghost use Rattle.data_types.specs.Table.{Flat};
-ghost use Rattle.data_types.specs.Value.{Value};
+ghost use Rattle.data_types.specs.promise.FieldText.{form_of};
+ghost use Rattle.data_types.specs.promise.Table.{Flat};
+ghost use Rattle.data_types.specs.promise.Value.{Value};
 ghost use Rattle.data_types.specs.declared.kind.DataType.{DataType};
-ghost use Rattle.col_build.specs.Encoding.{Fits, HasForm, are_bounded, are_within, byte_total, is_wide, push_fault};
-ghost use Rattle.data_types.specs.ColumnKinds.{type_of_kind};
+ghost use Rattle.col_build.specs.promise.Encoding.{are_within, is_wide};
+ghost use Rattle.data_types.specs.promise.Value.{byte_total};
+ghost use Rattle.col_build.specs.Encoding.{Fits, HasForm, are_bounded, push_fault};
+ghost use Rattle.data_types.specs.promise.ColumnKinds.{type_of_kind};
 ghost use Rattle.data_types.specs.KindTrees.{TypedOk};
-ghost use Rattle.data_types.specs.TypedView.{typed_of};
-ghost use Rattle.layout_rules.specs.Values.{tree_items, value_at, values_of};
-ghost use Rattle.layout_rules.specs.Walk.{LayoutOk};
+ghost use Rattle.data_types.specs.promise.TypedView.{typed_of};
+ghost use Rattle.layout_rules.specs.promise.Values.{tree_items, value_at, values_of};
+ghost use Rattle.layout_rules.specs.promise.Walk.{LayoutOk};
 ghost use Rattle.array_laws.specs.Items.{AreApart, IsItemOf};
-ghost use Rattle.layout_rules.specs.Rules.{window_limit};
+ghost use Rattle.layout_rules.specs.promise.Rules.{window_limit};
 
 use crate::stored::numbers_of_bytes;
 use data_types::Typed;

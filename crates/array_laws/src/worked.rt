@@ -1,13 +1,13 @@
 //! The laws' trees at small arrays, computed, so that a wrong definition shows in numbers.
 ghost use Rattle.std.specs.Prelude.{◌≡◌, List, [], ◌∷◌, None, pos};
-ghost use Rattle.data_types.specs.Value.{Null};
+ghost use Rattle.data_types.specs.promise.Value.{Null};
 ghost use Rattle.raw_array.specs.Members.{Lowered, LoweredBy, ShareOf};
 ghost use Rattle.raw_array.specs.Windows.{Window};
-ghost use Rattle.layout_rules.specs.Values.{values_of};
-ghost use Rattle.layout_rules.specs.Walk.{first_fault};
+ghost use Rattle.layout_rules.specs.promise.Values.{values_of};
+ghost use Rattle.layout_rules.specs.promise.Walk.{first_fault};
 ghost use Rattle.array_laws.specs.Examples.{HasRows, chunk, hello, hi, n, text_views, texts, three, types};
 ghost use Rattle.array_laws.specs.Pieces.{rows_of_pieces};
-ghost use Rattle.data_types.specs.ColumnKinds.{table_type};
+ghost use Rattle.data_types.specs.promise.ColumnKinds.{table_type};
 
 /// A chunk, its windows and its shares, and windows on a column of views.
 pub fn worked_windows()

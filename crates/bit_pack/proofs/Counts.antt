@@ -5,7 +5,8 @@ use Rattle.std.specs.Int.RustNames.{count_ones}
 use Rattle.std.specs.Int.Count.{ones_step}
 use Rattle.std.proofs.lemmas.Nat.{ones-le}
 use Rattle.std.proofs.lemmas.Nat.Bits.{bit_at-lt, bit_at-suc, bit_at_lowest}
-use Rattle.data_types.specs.Packed.{bit, clear_count}
+use Rattle.data_types.specs.promise.Packed.{bit}
+use Rattle.data_types.specs.Packed.{clear_count}
 
 -- ---- counts in parts
 -- a count in two parts

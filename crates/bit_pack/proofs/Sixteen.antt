@@ -2,7 +2,7 @@
 use Rattle.std.proofs.Common.{◌≡◌, ℕ, zero, suc, ◌+◌, ◌*◌, ◌/◌, ◌%◌, ◌^◌, ◌<◌, ◌≤◌, List, ◌∷◌, length, refl, sym, ap, ◌∙◌, arith}
 use Rattle.std.specs.Int.{w128, to_le_bytes, bytes_low_first}
 use Rattle.std.proofs.Math.Nat.{div-div-eq-div-mul, pow-suc, mul_assoc, mul_comm}
-use Rattle.data_types.specs.Packed.{number_at, le_bytes}
+use Rattle.data_types.specs.promise.Packed.{number_at, le_bytes}
 use Rattle.bit_pack.proofs.NumberFacts.{number_grows}
 
 -- a number's lowest bytes and the rest

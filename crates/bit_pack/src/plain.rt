@@ -1,6 +1,6 @@
 //! The same numbers byte by byte, whatever the width: plain programs for the same definitions.
 ghost use Rattle.std.specs.Prelude.{◌≡◌, ◌+◌, ◌*◌, ◌<◌, ◌≤◌, ◌^◌, ◌++◌, ℕ, length, take, drop};
-ghost use Rattle.data_types.specs.Packed.{number_at, le_bytes};
+ghost use Rattle.data_types.specs.promise.Packed.{number_at, le_bytes};
 
 /// The number that this many bytes at a byte place are.
 pub(crate) fn unsigned_at(bytes: &[u8], at: usize, width: usize) -> u128

@@ -3,7 +3,7 @@ use Rattle.std.proofs.Common.{◌≡◌, ◌+◌, ◌-◌, ◌*◌, ◌%◌, ◌
 use Rattle.std.proofs.Common.{◌∙◌, refl, ap, append_assoc, length-append, arith}
 use Rattle.std.proofs.lemmas.List.{length-replicate, replicate-append-replicate}
 use Rattle.std.proofs.Math.Nat.{pow-suc}
-use Rattle.col_build.specs.Encoding.{bit_bytes, bit_value, byte_of}
+use Rattle.col_build.specs.promise.Encoding.{bit_bytes, bit_value, byte_of}
 use Rattle.col_build.specs.Times.{AddsBits, ShowsBits}
 
 pub value-small : (flag : Bool) → bit_value flag ≤ 1

@@ -2,12 +2,13 @@
 use Rattle.std.proofs.Common.{◌≡◌, ◌∙◌, ◌+◌, ℕ, Bool, true, false, List, [], ◌∷◌, refl, sym, ap, arith, subst}
 use Rattle.std.specs.Prelude.{Option, None, Some, map}
 use Rattle.std.specs.List.{concat}
-use Rattle.data_types.specs.FieldText.{Form, Truths, Wholes, FloatBits, Text, HexBytes, SizedHex, Decimals, form_of}
-use Rattle.data_types.specs.Value.{Value, bytes_of}
+use Rattle.data_types.specs.promise.FieldText.{Form, Truths, Wholes, FloatBits, Text, HexBytes, SizedHex, Decimals, form_of}
+use Rattle.data_types.specs.promise.Value.{Value, bytes_of}
 use Rattle.data_types.specs.declared.kind.DataType.{DataType}
 use Rattle.col_build.specs.Blocks.{AreSame, AreSameBut, count_if}
-use Rattle.col_build.specs.Encoding.{HasForm, buffers_if, encoded, if_some, is_wide, offset_bytes, validity_of}
-use Rattle.col_build.specs.Finished.{blocks_of, present_count}
+use Rattle.col_build.specs.promise.Encoding.{buffers_if, encoded, if_some, is_wide, offset_bytes, validity_of}
+use Rattle.col_build.specs.Encoding.{HasForm}
+use Rattle.col_build.specs.promise.Finished.{blocks_of, present_count}
 use Rattle.col_build.specs.Holding.{HasBytes, HasOffsets}
 use Rattle.col_build.specs.Settled.{HoldsWhole}
 use Rattle.col_build.specs.declared.builder.Builder.{Builder}

@@ -6,12 +6,13 @@ use Rattle.std.proofs.lemmas.List.{map-append}
 use Rattle.std.proofs.lemmas.List.Elements.{All-append, All-cons, All-nil}
 use Rattle.std.specs.Prelude.{not, nat_lt, ◌&&◌, if◌then◌else◌, map, Option, None, Some}
 use Rattle.std.specs.List.{concat}
-use Rattle.data_types.specs.FieldText.{Form, Truths, Wholes, FloatBits, Text, HexBytes, SizedHex, Decimals, form_of}
+use Rattle.data_types.specs.promise.FieldText.{Form, Truths, Wholes, FloatBits, Text, HexBytes, SizedHex, Decimals, form_of}
 use Rattle.data_types.specs.Kinds.{KindOk}
-use Rattle.data_types.specs.Storage.{storage_of}
-use Rattle.data_types.specs.Value.{Value, Null, Truth, Whole, Bits, Bytes, Items, Fields, byte_total, bytes_of}
+use Rattle.data_types.specs.promise.Storage.{storage_of}
+use Rattle.data_types.specs.promise.Value.{Value, Null, Truth, Whole, Bits, Bytes, Items, Fields, byte_total, bytes_of}
 use Rattle.data_types.specs.declared.kind.DataType.{DataType}
-use Rattle.col_build.specs.Encoding.{Fits, HasForm, are_bounded, are_within, fault_if, is_form, is_storable, is_text, is_wide, is_within, push_fault}
+use Rattle.col_build.specs.promise.Encoding.{are_within, is_wide, is_within}
+use Rattle.col_build.specs.Encoding.{Fits, HasForm, are_bounded, fault_if, is_form, is_storable, is_text, push_fault}
 use Rattle.col_build.specs.Holding.{HasBytes}
 use Rattle.col_build.specs.Settled.{IsNarrow}
 use Rattle.col_build.specs.Shapes.{between_fault, shape_fault, shape_in, text_fault}

@@ -2,7 +2,7 @@
 use Rattle.std.proofs.Common.{◌≡◌, ◌∙◌, ◌+◌, ◌*◌, ◌/◌, ◌%◌, ◌^◌, ◌++◌, ℕ, zero, suc, List, ◌∷◌, refl, sym, ap, arith}
 use Rattle.std.proofs.Math.Nat.{div-div-eq-div-mul, mul_comm, pow-suc}
 use Rattle.std.proofs.Math.Pow.{mod-pow-add}
-use Rattle.data_types.specs.Packed.{le_bytes}
+use Rattle.data_types.specs.promise.Packed.{le_bytes}
 
 -- the lowest bytes are those of the rest
 low-bytes : (width n : ℕ) → le_bytes width (n % 2 ^ (8 * width)) ≡ le_bytes width n

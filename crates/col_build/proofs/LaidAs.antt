@@ -1,6 +1,6 @@
 -- Shapes that lay items out alike.
 use Rattle.std.proofs.Common.{ℕ, List, subst, sym}
-use Rattle.data_types.specs.Value.{Value}
+use Rattle.data_types.specs.promise.Value.{Value}
 use Rattle.col_build.specs.Holding.{HasBytes, IsLaidAs}
 use Rattle.col_build.specs.declared.shape.Shape.{Shape}
 use Rattle.col_build.specs.declared.shape.Shape.TheVariants as shapes

@@ -7,11 +7,13 @@ use Rattle.std.proofs.lemmas.List.{length-map, length-replicate, map-append}
 use Rattle.std.proofs.lemmas.List.Elements.{All-append, All-cons, All-nil}
 use Rattle.std.specs.List.{All, flat_map}
 use Rattle.std.specs.Prelude.{not, ◌==◌, if◌then◌else◌, map, Option, None, Some}
-use Rattle.data_types.specs.FieldText.{Form, Truths, Wholes, FloatBits, Text, HexBytes, SizedHex, Decimals, form_of}
-use Rattle.data_types.specs.Value.{Value, Null, Truth, Whole, Bits, Bytes, Items, Fields, byte_total}
+use Rattle.data_types.specs.promise.FieldText.{Form, Truths, Wholes, FloatBits, Text, HexBytes, SizedHex, Decimals, form_of}
+use Rattle.data_types.specs.promise.Value.{Value, Null, Truth, Whole, Bits, Bytes, Items, Fields, byte_total}
 use Rattle.data_types.specs.declared.kind.DataType.{DataType}
-use Rattle.col_build.specs.Encoding.{Fits, are_bounded, are_within, bit_bytes, if_some, is_null, is_set, is_wide, null_total, push_fault, stored_item}
-use Rattle.col_build.specs.Encoding.{validity_of}
+use Rattle.col_build.specs.promise.Encoding.{are_within, bit_bytes, if_some, is_set, is_wide, null_total, stored_item}
+use Rattle.data_types.specs.promise.Value.{is_null}
+use Rattle.col_build.specs.Encoding.{Fits, are_bounded, push_fault}
+use Rattle.col_build.specs.promise.Encoding.{validity_of}
 use Rattle.col_build.specs.Holding.{HasBytes, HasValidity, Holds, bytes_in, offsets_in}
 use Rattle.col_build.specs.Shapes.{range_fault, shape_fault}
 use Rattle.col_build.specs.Times.{AddsBits, IsBitwise, TakesTimes}

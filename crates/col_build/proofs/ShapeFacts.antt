@@ -4,20 +4,21 @@ use Rattle.std.specs.Prelude.{not, nat_lt, ◌==◌, ◌&&◌, ◌||◌, if◌th
 use Rattle.std.proofs.lemmas.Bool.{cases_eq, false≢true}
 use Rattle.std.proofs.lemmas.Bool.Decides.{nat_tests}
 use Rattle.std.specs.Str.{is_utf8}
-use Rattle.data_types.specs.FieldText.{Form, Truths, Wholes, FloatBits, Text, HexBytes, SizedHex, Decimals, form_of, in_range}
+use Rattle.data_types.specs.promise.FieldText.{Form, Truths, Wholes, FloatBits, Text, HexBytes, SizedHex, Decimals, form_of, in_range}
 use Rattle.data_types.specs.Kinds.{KindOk}
-use Rattle.data_types.specs.Value.{Value, Null, Truth, Whole, Bits, Bytes, Items, Fields, byte_total}
+use Rattle.data_types.specs.promise.Value.{Value, Null, Truth, Whole, Bits, Bytes, Items, Fields, byte_total}
 use Rattle.data_types.specs.declared.kind.DataType.{DataType}
 use Rattle.data_types.specs.declared.kind.DataType.TheVariants as kinds
 use Rattle.data_types.specs.declared.kind.Tick.{Tick}
 use Rattle.data_types.specs.declared.kind.Tick.TheVariants as ticks
 use Rattle.data_types.specs.Packed.{IsWidth}
-use Rattle.col_build.specs.Encoding.{HasForm, fault_if, is_wide, push_fault}
+use Rattle.col_build.specs.promise.Encoding.{is_wide}
+use Rattle.col_build.specs.Encoding.{HasForm, fault_if, push_fault}
 use Rattle.col_build.specs.Holding.{ShapeOk}
 use Rattle.col_build.specs.Shapes.{range_fault, shape_fault, shape_in}
 use Rattle.col_build.specs.declared.shape.Shape.{Shape}
 use Rattle.col_build.specs.declared.shape.Shape.TheVariants as shapes
-use Rattle.data_types.specs.Storage.{storage_of}
+use Rattle.data_types.specs.promise.Storage.{storage_of}
 use Rattle.col_build.specs.declared.item.PushFault.TheVariants.{OutOfRange, NotText}
 
 -- ---- shapes of forms, and numbers of whole bytes

@@ -5,8 +5,9 @@ use Rattle.std.proofs.lemmas.Bool.Decides.{nat_tests}
 use Rattle.std.proofs.lemmas.List.{length-map, map-append}
 use Rattle.std.specs.Int.{from_bool}
 use Rattle.std.specs.Prelude.{not, ◌==◌, map, None, Some}
-use Rattle.data_types.specs.Value.{Value, Null, Truth, Whole, Bits, Bytes, Items, Fields}
-use Rattle.col_build.specs.Encoding.{bit_bytes, if_some, is_null, null_total, validity_of}
+use Rattle.data_types.specs.promise.Value.{Value, Null, Truth, Whole, Bits, Bytes, Items, Fields}
+use Rattle.col_build.specs.promise.Encoding.{bit_bytes, if_some, null_total, validity_of}
+use Rattle.data_types.specs.promise.Value.{is_null}
 use Rattle.col_build.specs.Holding.{HasValidity}
 
 -- ---- how many values are null

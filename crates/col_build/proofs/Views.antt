@@ -3,7 +3,8 @@ use Rattle.std.proofs.Common.{◌≡◌, ◌+◌, List, [], ◌∷◌, cond, ari
 use Rattle.std.proofs.lemmas.List.Sums.{sum_by-cons}
 use Rattle.std.specs.Prelude.{Option, None, Some, ℕ, count_by, is_some}
 use Rattle.buf_block.specs.declared.hold.BufView.{BufView}
-use Rattle.col_build.specs.Finished.{AreMade, present_count}
+use Rattle.col_build.specs.promise.Finished.{present_count}
+use Rattle.col_build.specs.Finished.{AreMade}
 
 some-cons : (view : Option BufView) (views : List (Option BufView)) → count_by is_some (view ∷ views) ≡ cond (is_some view) 1 0 + count_by is_some views
 some-cons view views = sum_by-cons (λ view. cond (is_some view) 1 0) view views

@@ -1,10 +1,10 @@
 -- What a finished column is made of.
-use Rattle.std.specs.Prelude.{◌≡◌, ℕ, ◌+◌, pos, List, [], ◌∷◌, length, Option, None, Some}
+use Rattle.std.specs.Prelude.{◌≡◌, ℕ, pos, List, [], ◌∷◌, length, Option, None, Some}
 use Rattle.buf_block.specs.declared.hold.BufView.{BufView}
 use Rattle.buf_block.specs.declared.hold.TheConstants.{AMOUNT}
-use Rattle.data_types.specs.Value.{Value}
+use Rattle.data_types.specs.promise.Value.{Value}
 use Rattle.data_types.specs.declared.kind.DataType.{DataType}
-use Rattle.col_build.specs.Encoding.{encoded}
+use Rattle.col_build.specs.promise.Encoding.{encoded}
 use Rattle.col_build.specs.declared.column.FinishedColumn.{FinishedColumn}
 
 -- the view is the whole of a block of these bytes, by the block's first hold
@@ -23,16 +23,6 @@ abbrev pub AreMade : List (Option BufView) → List (Option (List ℕ)) → Type
 AreMade [] [] = Unit {0}
 AreMade (view ∷ views) (bytes ∷ buffers) = IsMade view bytes × AreMade views buffers
 AreMade _ _ = ⊥
-
--- how many buffers are there
-abbrev pub present_count : List (Option (List ℕ)) → ℕ
-present_count [] = 0
-present_count (None ∷ buffers) = present_count buffers
-present_count (Some bytes ∷ buffers) = 1 + present_count buffers
-
--- how many blocks the encoding of a column is made of
-abbrev pub blocks_of : DataType → List Value → ℕ
-blocks_of kind values = present_count (encoded kind values).buffers
 
 -- the finished column is the encoding of these values
 pub record IsEncoded (column : FinishedColumn) (kind : DataType) (values : List Value) : Type 0 where

@@ -1,12 +1,14 @@
 -- What a builder holds: the buffers of the encoding of its values, in the making.
 use Rattle.std.specs.Prelude.{◌≡◌, ◌≢◌, ◌⊎◌, ℕ, ◌+◌, ◌*◌, ◌^◌, ◌<◌, ◌≤◌, Bool, false, IsTrue, List, [], ◌∷◌, ◌++◌, length, map, take, None, Result}
 use Rattle.std.specs.List.{concat, flat_map}
-use Rattle.data_types.specs.Packed.{IsWidth, number_at}
-use Rattle.data_types.specs.Storage.{storage_of}
+use Rattle.data_types.specs.promise.Packed.{number_at}
+use Rattle.data_types.specs.Packed.{IsWidth}
+use Rattle.data_types.specs.promise.Storage.{storage_of}
 use Rattle.data_types.specs.declared.storage.Storage.TheVariants as stored
-use Rattle.data_types.specs.Value.{Value, bytes_of}
+use Rattle.data_types.specs.promise.Value.{Value, bytes_of}
 use Rattle.data_types.specs.declared.kind.DataType.{DataType}
-use Rattle.col_build.specs.Encoding.{Fits, bit_bytes, if_some, is_set, most_values, null_total, offset_bytes, push_fault, stored_item, validity_of}
+use Rattle.col_build.specs.promise.Encoding.{bit_bytes, if_some, is_set, null_total, offset_bytes, stored_item, validity_of}
+use Rattle.col_build.specs.Encoding.{Fits, most_values, push_fault}
 use Rattle.col_build.specs.Shapes.{IsAnswer, shape_in}
 use Rattle.col_build.specs.declared.builder.Builder.{Builder}
 use Rattle.col_build.specs.declared.item.PushFault.{PushFault}

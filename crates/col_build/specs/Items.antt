@@ -1,5 +1,5 @@
 -- What an item is, as a value.
-use Rattle.data_types.specs.Value.{Value, Null, Truth, Whole, Bits, Bytes}
+use Rattle.data_types.specs.promise.Value.{Value, Null, Truth, Whole, Bits, Bytes}
 use Rattle.col_build.specs.declared.item.Item.{Item}
 use Rattle.col_build.specs.declared.item.Item.TheVariants as items
 

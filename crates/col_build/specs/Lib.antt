@@ -1,3 +1,4 @@
+pub mod promise
 pub mod Items
 pub mod Encoding
 pub mod Shapes

@@ -1,9 +1,10 @@
 -- What a builder holds that has made nothing ahead of further items.
 use Rattle.std.specs.Prelude.{◌≡◌, ◌<◌, ℕ, Bool, false, List, [], ◌∷◌, ◌++◌, length, Result}
-use Rattle.data_types.specs.Storage.{storage_of}
-use Rattle.data_types.specs.Value.{Value}
+use Rattle.data_types.specs.promise.Storage.{storage_of}
+use Rattle.data_types.specs.promise.Value.{Value}
 use Rattle.data_types.specs.declared.kind.DataType.{DataType}
-use Rattle.col_build.specs.Encoding.{Fits, if_some, most_values, null_total, push_fault, validity_of}
+use Rattle.col_build.specs.promise.Encoding.{if_some, null_total, validity_of}
+use Rattle.col_build.specs.Encoding.{Fits, most_values, push_fault}
 use Rattle.col_build.specs.Holding.{HasBytes, Holds}
 use Rattle.col_build.specs.Shapes.{IsAnswer, shape_in}
 use Rattle.col_build.specs.declared.builder.Builder.{Builder}

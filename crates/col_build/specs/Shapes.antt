@@ -3,11 +3,11 @@
 use Rattle.std.specs.Prelude.{◌≡◌, ◌⊎◌, ℕ, ◌+◌, ◌-◌, ◌*◌, ◌/◌, ◌^◌, Bool, true, false, nat_lt, ◌==◌, if◌then◌else◌, List, ◌++◌, length, Option, None, Some}
 use Rattle.std.specs.Prelude.{Result, Ok, Err}
 use Rattle.std.specs.Str.{is_utf8}
-use Rattle.data_types.specs.FieldText.{in_range}
+use Rattle.data_types.specs.promise.FieldText.{in_range}
 use Rattle.data_types.specs.declared.storage.Storage.{Storage}
 use Rattle.data_types.specs.declared.storage.Storage.TheVariants as stored
-use Rattle.data_types.specs.Value.{Value, Null, Truth, Whole, Bits, Bytes}
-use Rattle.col_build.specs.Encoding.{narrow_limit}
+use Rattle.data_types.specs.promise.Value.{Value, Null, Truth, Whole, Bits, Bytes}
+use Rattle.col_build.specs.promise.Encoding.{narrow_limit}
 use Rattle.col_build.specs.declared.item.PushFault.{PushFault}
 use Rattle.col_build.specs.declared.item.PushFault.TheVariants.{WrongKind, OutOfRange, NotText, NoMemory}
 use Rattle.col_build.specs.declared.shape.Shape.{Shape}

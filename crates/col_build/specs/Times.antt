@@ -1,8 +1,9 @@
 -- An item that a column takes many times.
 use Rattle.std.specs.Prelude.{◌≡◌, ◌⊎◌, ◌+◌, ◌≤◌, ◌<◌, ℕ, Bool, List, ◌++◌, length, replicate, None}
-use Rattle.data_types.specs.Value.{Value}
+use Rattle.data_types.specs.promise.Value.{Value}
 use Rattle.data_types.specs.declared.kind.DataType.{DataType}
-use Rattle.col_build.specs.Encoding.{bit_bytes, most_values, push_fault}
+use Rattle.col_build.specs.promise.Encoding.{bit_bytes}
+use Rattle.col_build.specs.Encoding.{most_values, push_fault}
 use Rattle.col_build.specs.Holding.{Holds}
 use Rattle.col_build.specs.declared.builder.Builder.{Builder}
 use Rattle.col_build.specs.declared.shape.Shape.{Shape}

@@ -1,11 +1,13 @@
 //! Values added to a column that takes them. A number or a short text costs one test and the stores, since its place was made
 //! ahead, and behind a null its validity bit.
 ghost use Rattle.std.specs.Prelude.{◌≡◌, ◌≢◌, ◌≤◌, ◌<◌, ◌+◌, ◌*◌, ◌⊎◌, ◌∷◌, [], Bool, List, false, true, length, take, vec_len, IfOk, OnOk, OnErr};
-ghost use Rattle.data_types.specs.FieldText.{form_of};
+ghost use Rattle.data_types.specs.promise.FieldText.{form_of};
 ghost use Rattle.data_types.specs.Kinds.{KindOk};
-ghost use Rattle.data_types.specs.Value.{Value, Null, Truth, Whole, Bits, Bytes, bytes_of};
+ghost use Rattle.data_types.specs.promise.Value.{Value, Null, Truth, Whole, Bits, Bytes, bytes_of};
 ghost use Rattle.data_types.specs.declared.kind.DataType.{DataType};
-ghost use Rattle.col_build.specs.Encoding.{HasForm, is_null, is_set, most_values};
+ghost use Rattle.data_types.specs.promise.Value.{is_null};
+ghost use Rattle.col_build.specs.promise.Encoding.{is_set};
+ghost use Rattle.col_build.specs.Encoding.{HasForm, most_values};
 ghost use Rattle.col_build.specs.Holding.{HasBytes, bytes_in, offsets_in};
 ghost use Rattle.col_build.specs.Items.{value_of};
 

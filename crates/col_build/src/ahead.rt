@@ -1,8 +1,9 @@
 //! What is made ahead of further items: bytes behind those of numbers, of narrow offsets and between them, which nothing
 //! reads. An item that finds its place there is stored without a look at the vector's room.
 ghost use Rattle.std.specs.Prelude.{◌≡◌, ◌^◌, ◌≢◌, ◌≤◌, ◌<◌, ◌+◌, ◌*◌, ◌++◌, Bool, true, OnOk, OnErr, length, replicate, take, vec_len};
-ghost use Rattle.data_types.specs.Packed.{IsWidth, le_bytes, stored};
-ghost use Rattle.data_types.specs.FieldText.{in_range};
+ghost use Rattle.data_types.specs.promise.Packed.{le_bytes, stored};
+ghost use Rattle.data_types.specs.Packed.{IsWidth};
+ghost use Rattle.data_types.specs.promise.FieldText.{in_range};
 ghost use Rattle.col_build.specs.Encoding.{most_values};
 ghost use Rattle.col_build.specs.Holding.{HasEnd, ShapeOk, bytes_in, end_at, offsets_in};
 ghost use Rattle.col_build.specs.Settled.{IsNarrow};

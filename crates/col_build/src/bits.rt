@@ -1,7 +1,8 @@
 //! Bits, added one by one: eight a byte, the least significant first ("Arrow Columnar Format", "Validity bitmaps").
 ghost use Rattle.std.specs.Prelude.{◌≡◌, ◌≢◌, ◌+◌, ◌*◌, ◌/◌, ◌%◌, ◌^◌, ◌<◌, ◌≤◌, ◌++◌, ◌∷◌, [], Bool, true, false, List, length, replicate, IsOk, OnOk, OnErr, vec_len};
 ghost use Rattle.std.specs.Prelude.{vec_capacity};
-ghost use Rattle.col_build.specs.Encoding.{bit_bytes, most_values};
+ghost use Rattle.col_build.specs.promise.Encoding.{bit_bytes};
+ghost use Rattle.col_build.specs.Encoding.{most_values};
 ghost use Rattle.col_build.specs.Times.{AddsBits, ShowsBits};
 
 use unit_pass::NoMemory;

@@ -1,11 +1,12 @@
 //! A flat column in the making: items pushed one by one, and the column of them.
 ghost use Rattle.std.specs.Prelude.{◌≡◌, ◌≤◌, ◌<◌, ◌^◌, ◌+◌, ◌∷◌, [], List, Bool, true, pos, length, map, IfOk, OnOk, OnErr};
-ghost use Rattle.data_types.specs.FieldText.{form_of};
+ghost use Rattle.data_types.specs.promise.FieldText.{form_of};
 ghost use Rattle.data_types.specs.Kinds.{KindOk};
-ghost use Rattle.data_types.specs.Value.{Value, Bytes};
+ghost use Rattle.data_types.specs.promise.Value.{Value, Bytes};
 ghost use Rattle.std.specs.Str.{is_utf8};
 ghost use Rattle.data_types.specs.declared.kind.DataType.{DataType};
-ghost use Rattle.col_build.specs.Encoding.{HasForm, is_null};
+ghost use Rattle.data_types.specs.promise.Value.{is_null};
+ghost use Rattle.col_build.specs.Encoding.{HasForm};
 ghost use Rattle.col_build.specs.Items.{value_of};
 
 use crate::ahead::cut_ahead;

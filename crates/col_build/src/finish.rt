@@ -1,10 +1,10 @@
 //! The buffers of a builder, moved into blocks, and taken out again where memory runs out.
 ghost use Rattle.std.specs.Prelude.{◌≡◌, ◌+◌, ◌<◌, ◌≤◌, ◌∷◌, [], ℕ, List, Option, true, false, length, if◌then◌else◌, is_ok, IfOk, IsTrue, IsUtf8, OnErr, OnOk};
 ghost use Rattle.std.specs.Prelude.{vec_capacity, vec_len};
-ghost use Rattle.unit_pass.specs.Tally.{risen};
+ghost use Rattle.unit_pass.specs.promise.Tally.{risen};
 ghost use Rattle.unit_pass.specs.declared.pass.TheConstants.{SUPPLY};
 ghost use Rattle.col_build.specs.Blocks.{AreAdded, AreSame, CanTake, IsAdded, IsEmptied, count_if};
-ghost use Rattle.col_build.specs.Encoding.{if_some};
+ghost use Rattle.col_build.specs.promise.Encoding.{if_some};
 ghost use Rattle.col_build.specs.Finished.{AreMade};
 
 use crate::shape::Shape;
@@ -240,11 +240,13 @@ fn lay_three(
 }
 
 impl Builder {
-    ghost use Rattle.col_build.specs.Encoding.{Fits, encoded};
-    ghost use Rattle.col_build.specs.Finished.{IsEncoded, blocks_of};
+    ghost use Rattle.col_build.specs.promise.Encoding.{encoded};
+    ghost use Rattle.col_build.specs.Encoding.{Fits};
+    ghost use Rattle.col_build.specs.promise.Finished.{blocks_of};
+    ghost use Rattle.col_build.specs.Finished.{IsEncoded};
     ghost use Rattle.col_build.specs.Holding.{Holds, HoldsSome, Keeps};
     ghost use Rattle.col_build.specs.Settled.{HoldsSomeWhole, HoldsWhole, KeepsWhole};
-    ghost use Rattle.data_types.specs.Value.{Value};
+    ghost use Rattle.data_types.specs.promise.Value.{Value};
     ghost use Rattle.data_types.specs.declared.kind.DataType.{DataType};
 
     /// Moves the buffers of a column with nothing ahead into blocks. Where there is no memory the builder holds the same.

@@ -1,8 +1,9 @@
 //! Encodings on which the definitions are computed.
 ghost use Rattle.std.specs.Prelude.{◌≡◌, pos, negsuc, true, false, [], ◌∷◌, None, Some, codes};
 ghost use Rattle.data_types.specs.declared.kind.DataType.TheVariants.{Bool, Int, Float, Utf8, FixedBinary};
-ghost use Rattle.data_types.specs.Value.{Null, Truth, Whole, Bits, Bytes};
-ghost use Rattle.col_build.specs.Encoding.{bit_bytes, encoded, push_fault};
+ghost use Rattle.data_types.specs.promise.Value.{Null, Truth, Whole, Bits, Bytes};
+ghost use Rattle.col_build.specs.promise.Encoding.{bit_bytes, encoded};
+ghost use Rattle.col_build.specs.Encoding.{push_fault};
 ghost use Rattle.col_build.specs.declared.item.PushFault.TheVariants.{WrongKind, OutOfRange, NotText};
 
 /// Small columns, and items that a column refuses.

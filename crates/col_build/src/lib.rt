@@ -7,7 +7,7 @@
 //! empty then; where memory runs out it keeps all its items. [`Builder::begin_anew`] makes room in it for the next items.
 //! The bytes of a column of texts are UTF-8, and their block is marked as text.
 //!
-//! - `specs/Encoding.antt` says, from the values alone, what the buffers of a column are: the validity bitmap, the offsets
+//! - `specs/promise/Encoding.antt` says, from the values alone, what the buffers of a column are: the validity bitmap, the offsets
 //!   and the data, which of them are absent, and what a null has in its place. It also says which items a column takes
 //!   (`push_fault`).
 //! - A contract says which values a builder holds by `Holds`, a relation over its unfinished buffers. It holds of a new

@@ -1,7 +1,8 @@
 //! Numbers of a width in bytes, appended ("Arrow Columnar Format", "Byte order" and "Fixed-size primitive layout").
 ghost use Rattle.std.specs.Prelude.{◌≡◌, ◌≢◌, ◌+◌, ◌*◌, ◌^◌, ◌<◌, ◌≤◌, ◌++◌, ℤ, pos, true, IsTrue, Option, None, nat_lt, vec_capacity, vec_len};
-ghost use Rattle.data_types.specs.Packed.{IsWidth, le_bytes, stored};
-ghost use Rattle.data_types.specs.FieldText.{in_range};
+ghost use Rattle.data_types.specs.promise.Packed.{le_bytes, stored};
+ghost use Rattle.data_types.specs.Packed.{IsWidth};
+ghost use Rattle.data_types.specs.promise.FieldText.{in_range};
 ghost use Rattle.col_build.specs.Shapes.{Stored, past, range_fault};
 
 use crate::PushFault;

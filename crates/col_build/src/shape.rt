@@ -1,7 +1,7 @@
 //! How the items of a type are laid out ("Arrow Columnar Format", "Physical memory layout").
 ghost use Rattle.std.specs.Prelude.{◌≡◌};
-ghost use Rattle.data_types.specs.FieldText.{form_of};
-ghost use Rattle.data_types.specs.Storage.{storage_of};
+ghost use Rattle.data_types.specs.promise.FieldText.{form_of};
+ghost use Rattle.data_types.specs.promise.Storage.{storage_of};
 ghost use Rattle.col_build.specs.Encoding.{HasForm};
 ghost use Rattle.col_build.specs.Shapes.{shape_in};
 

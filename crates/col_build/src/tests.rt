@@ -1,9 +1,10 @@
 //! Finished columns, against buffers that were written by hand.
 ghost use Rattle.std.specs.Prelude.{◌≡◌, ◌+◌, ◌<◌, ◌≤◌, [], List, length, pos, false};
 ghost use Rattle.unit_pass.specs.declared.pass.TheConstants.{SUPPLY};
-ghost use Rattle.data_types.specs.Value.{Value};
+ghost use Rattle.data_types.specs.promise.Value.{Value};
 ghost use Rattle.data_types.specs.declared.kind.DataType.{DataType};
-ghost use Rattle.col_build.specs.Finished.{IsEncoded, blocks_of};
+ghost use Rattle.col_build.specs.promise.Finished.{blocks_of};
+ghost use Rattle.col_build.specs.Finished.{IsEncoded};
 ghost use Rattle.col_build.specs.Holding.{Adds, Holds, HoldsFew, HoldsSome};
 ghost use Rattle.col_build.specs.Items.{value_of};
 ghost use Rattle.data_types.specs.declared.kind.DataType.TheVariants.{Decimal, Int};

@@ -1,7 +1,9 @@
 //! An item that is added many times.
 ghost use Rattle.std.specs.Prelude.{◌≡◌, ◌≢◌, ◌≤◌, ◌+◌, ◌/◌, ◌++◌, Bool, List, true, length, replicate, OnErr, OnOk, vec_capacity, vec_len};
-ghost use Rattle.data_types.specs.Value.{Value};
-ghost use Rattle.col_build.specs.Encoding.{if_some, is_null, is_set, most_values, null_total, validity_of};
+ghost use Rattle.data_types.specs.promise.Value.{Value};
+ghost use Rattle.col_build.specs.promise.Encoding.{if_some, is_set, null_total, validity_of};
+ghost use Rattle.data_types.specs.promise.Value.{is_null};
+ghost use Rattle.col_build.specs.Encoding.{most_values};
 ghost use Rattle.col_build.specs.Holding.{HasBytes, HasValidity};
 ghost use Rattle.col_build.specs.Items.{value_of};
 ghost use Rattle.col_build.specs.Times.{IsBitwise};

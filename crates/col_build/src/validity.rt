@@ -1,7 +1,8 @@
 //! Validity bits, which begin with the first null ("Arrow Columnar Format", "Validity bitmaps").
 ghost use Rattle.std.specs.Prelude.{◌≡◌, ◌≢◌, ◌+◌, ◌/◌, ◌≤◌, ◌++◌, ◌∷◌, [], Bool, List, true, false, replicate, OnErr, OnOk, IfErr, vec_len, vec_capacity};
-ghost use Rattle.data_types.specs.Value.{Value};
-ghost use Rattle.col_build.specs.Encoding.{bit_bytes, if_some, is_null, validity_of};
+ghost use Rattle.data_types.specs.promise.Value.{Value};
+ghost use Rattle.col_build.specs.promise.Encoding.{bit_bytes, if_some, validity_of};
+ghost use Rattle.data_types.specs.promise.Value.{is_null};
 ghost use Rattle.col_build.specs.Holding.{HasValidity};
 ghost use Rattle.col_build.specs.declared.item.PushFault.TheVariants as faults;
 

@@ -7,15 +7,17 @@ use Rattle.std.proofs.Math.Nat.{zero-add}
 use Rattle.std.proofs.lemmas.Bool.Decides.{nat_tests}
 use Rattle.std.proofs.lemmas.List.{length-append, length-replicate}
 use Rattle.std.proofs.lemmas.List.Elements.{All-head, All-tail}
-use Rattle.data_types.specs.Packed.{IsWidth, le_bytes, stored}
+use Rattle.data_types.specs.promise.Packed.{le_bytes, stored}
+use Rattle.data_types.specs.Packed.{IsWidth}
 use Rattle.data_types.specs.ColumnForms.{HasForm, IsColumnKind}
-use Rattle.data_types.specs.FieldText.{Form, Truths, Wholes, FloatBits, Text, HexBytes, SizedHex, Decimals, IsOfForm, IsOfSome, IsValueOf, form_of}
-use Rattle.data_types.specs.Value.{Value, Null, Truth, Whole, Bits, Bytes, Items, Fields, bytes_of, is_null}
+use Rattle.data_types.specs.promise.FieldText.{Form, Truths, Wholes, FloatBits, Text, HexBytes, SizedHex, Decimals, form_of}
+use Rattle.data_types.specs.FieldText.{IsOfForm, IsOfSome, IsValueOf}
+use Rattle.data_types.specs.promise.Value.{Value, Null, Truth, Whole, Bits, Bytes, Items, Fields, bytes_of, is_null}
 use Rattle.data_types.specs.declared.kind.DataType.{DataType}
 use Rattle.col_build.proofs.ShapeFacts.{FormOk, form-ok}
-use Rattle.col_build.specs.Encoding.{bit_bytes, buffers_by, buffers_if, if_some, in_place, is_set, is_wide, null_total, stored_item, validity_of}
-use Rattle.col_build.specs.Finished.{blocks_of, present_count}
-use Rattle.stage_model.specs.Traffic.{flat_blocks, form_blocks, one_if_any, row_blocks, validity_blocks}
+use Rattle.col_build.specs.promise.Encoding.{bit_bytes, buffers_by, buffers_if, if_some, in_place, is_set, is_wide, null_total, stored_item, validity_of}
+use Rattle.col_build.specs.promise.Finished.{blocks_of, present_count}
+use Rattle.stage_model.specs.promise.Traffic.{flat_blocks, form_blocks, one_if_any, row_blocks, validity_blocks}
 
 -- ---- the validity bitmap
 

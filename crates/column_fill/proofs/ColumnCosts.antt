@@ -1,15 +1,17 @@
 -- What a finished column costs: a node, and a hold for each buffer of its encoding.
 use Rattle.std.proofs.Common.{◌≡◌, ◌≤◌, ◌+◌, ℕ, Bool, List, [], ◌∷◌, length, Option, None, Some, refl, ap, arith}
 use Rattle.buf_block.specs.declared.hold.BufView.{BufView}
-use Rattle.data_types.specs.FieldText.{Form, Truths, Wholes, FloatBits, Text, HexBytes, SizedHex, Decimals, form_of}
-use Rattle.data_types.specs.Value.{Value}
+use Rattle.data_types.specs.promise.FieldText.{Form, Truths, Wholes, FloatBits, Text, HexBytes, SizedHex, Decimals, form_of}
+use Rattle.data_types.specs.promise.Value.{Value}
 use Rattle.data_types.specs.declared.kind.DataType.{DataType}
-use Rattle.tree_model.specs.Tree.{maybe_tree}
-use Rattle.raw_array.specs.Members.{ArrayTree, Cost, cost_of_maybe, holds_of}
+use Rattle.tree_model.specs.promise.TreeData.{maybe_tree}
+use Rattle.raw_array.specs.promise.Members.{ArrayTree, Cost, holds_of}
+use Rattle.raw_array.specs.Members.{cost_of_maybe}
 use Rattle.raw_array.specs.View.{buffers_of}
-use Rattle.col_build.specs.Encoding.{buffers_by, buffers_if, encoded, is_wide}
-use Rattle.col_build.specs.Finished.{AreMade, blocks_of, present_count}
-use Rattle.arr_export.specs.ArrayTrees.{column_tree, made_buffers}
+use Rattle.col_build.specs.promise.Encoding.{buffers_by, buffers_if, encoded, is_wide}
+use Rattle.col_build.specs.promise.Finished.{blocks_of, present_count}
+use Rattle.col_build.specs.Finished.{AreMade}
+use Rattle.arr_export.specs.promise.ArrayTrees.{column_tree, made_buffers}
 
 made-holds : (buffers : List (Option (List ℕ))) → holds_of (made_buffers buffers) ≡ present_count buffers
 made-holds [] = refl

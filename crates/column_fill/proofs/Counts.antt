@@ -1,13 +1,13 @@
 -- How many columns, rows and items there are.
 use Rattle.std.proofs.Common.{◌≡◌, ◌∙◌, ℕ, zero, suc, List, length, refl, ap}
 use Rattle.std.proofs.lemmas.List.{length-map}
-use Rattle.data_types.specs.Table.{Column}
-use Rattle.tree_model.specs.Tree.{children_of}
+use Rattle.data_types.specs.promise.Table.{Column}
+use Rattle.tree_model.specs.promise.TreeParts.{children_of}
 use Rattle.tree_model.proofs.Lists.{tree_list-trees}
-use Rattle.raw_array.specs.Members.{ArrayTree}
-use Rattle.data_types.specs.ColumnKinds.{type_of_column, type_of_columns, types_of_columns}
-use Rattle.data_types.specs.KindTrees.{KindTree}
-use Rattle.layout_rules.specs.Values.{each, row_items, rows_of, tree_items}
+use Rattle.raw_array.specs.promise.Members.{ArrayTree}
+use Rattle.data_types.specs.promise.ColumnKinds.{type_of_column, type_of_columns, types_of_columns}
+use Rattle.data_types.specs.promise.KindTrees.{KindTree}
+use Rattle.layout_rules.specs.promise.Values.{each, row_items, rows_of, tree_items}
 
 pub length-each : {X : Type 0} (f : ℕ → X) (from n : ℕ) → length (each f from n) ≡ n
 length-each f from zero = refl

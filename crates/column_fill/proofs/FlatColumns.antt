@@ -1,12 +1,14 @@
 -- The type of a flat column.
 use Rattle.std.proofs.Common.{◌≡◌, true, Option, None, Some, refl}
 use Rattle.std.specs.Prelude.{is_some}
-use Rattle.data_types.specs.FieldText.{Form, form_of}
+use Rattle.data_types.specs.promise.FieldText.{Form, form_of}
 use Rattle.data_types.specs.Kinds.{KindOk}
-use Rattle.tree_model.specs.Tree.{Released, Live, absent, present, dictionary_of}
-use Rattle.data_types.specs.KindTrees.{KindTree, TypedOk, kind_in}
+use Rattle.tree_model.specs.promise.TreeData.{Released, Live, absent, present}
+use Rattle.tree_model.specs.promise.TreeParts.{dictionary_of}
+use Rattle.data_types.specs.promise.KindTrees.{KindTree, kind_in}
+use Rattle.data_types.specs.KindTrees.{TypedOk}
 use Rattle.col_build.specs.Encoding.{HasForm}
-use Rattle.column_fill.specs.FlatColumns.{is_flat_column}
+use Rattle.column_fill.specs.promise.FlatColumns.{is_flat_column}
 
 form-there : (form : Option Form) → is_some form ≡ true → HasForm form
 form-there None e = absurd (cc)

@@ -4,18 +4,18 @@ use Rattle.std.proofs.Common.{refl, sym, ap, subst, arith}
 use Rattle.std.proofs.lemmas.List.{get_or-map, length-map, length-take, map_more, take-map}
 use Rattle.data_types.specs.ColumnForms.{IsColumnKind}
 use Rattle.data_types.specs.FieldText.{IsValueOf}
-use Rattle.data_types.specs.Storage.{storage_of}
-use Rattle.data_types.specs.Table.{Kind}
-use Rattle.data_types.specs.Value.{Value, Null, Bytes, Truth, Whole, byte_total, bytes_of}
+use Rattle.data_types.specs.promise.Storage.{storage_of}
+use Rattle.data_types.specs.promise.Table.{Kind}
+use Rattle.data_types.specs.promise.Value.{Value, Null, Bytes, Truth, Whole, byte_total, bytes_of}
 use Rattle.data_types.specs.declared.kind.DataType.{DataType}
 use Rattle.data_types.specs.declared.storage.Storage.{Storage}
 use Rattle.data_types.specs.declared.storage.Storage.TheVariants as stored
 use Rattle.col_build.specs.Holding.{Holds, HoldsWholes, Takes as IsTaken}
 use Rattle.col_build.specs.declared.builder.Builder.{Builder}
-use Rattle.raw_array.specs.Members.{ArrayTree}
-use Rattle.data_types.specs.ColumnKinds.{type_of_kind}
-use Rattle.data_types.specs.KindTrees.{KindTree}
-use Rattle.layout_rules.specs.Values.{value_at}
+use Rattle.raw_array.specs.promise.Members.{ArrayTree}
+use Rattle.data_types.specs.promise.ColumnKinds.{type_of_kind}
+use Rattle.data_types.specs.promise.KindTrees.{KindTree}
+use Rattle.layout_rules.specs.promise.Values.{value_at}
 use Rattle.arr_import.specs.Window.{Window, item_at, whole}
 use Rattle.stream_face.specs.Lawful.{AreValues}
 use Rattle.column_fill.specs.Takes.{IsStored, Takes}

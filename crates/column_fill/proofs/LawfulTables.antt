@@ -6,25 +6,31 @@ use Rattle.std.proofs.lemmas.List.Elements.{All-cons, All-head, All-nil, All-tai
 use Rattle.std.specs.List.{concat}
 use Rattle.data_types.specs.ColumnForms.{AreColumnKinds, IsColumnKind}
 use Rattle.data_types.specs.FieldText.{IsValueOf}
-use Rattle.data_types.specs.Parts.{column_values}
-use Rattle.data_types.specs.Table.{Column, Row}
-use Rattle.data_types.specs.Value.{Value, Null, Whole, Bytes, Truth, Bits, Items, Fields, byte_total, bytes_of}
+use Rattle.data_types.specs.promise.Parts.{column_values}
+use Rattle.data_types.specs.promise.Table.{Column, Row}
+use Rattle.data_types.specs.promise.Value.{Value, Null, Whole, Bytes, Truth, Bits, Items, Fields, byte_total, bytes_of}
 use Rattle.data_types.specs.declared.kind.DataType.{DataType}
 use Rattle.tree_model.proofs.Lists.{tree_list-trees}
-use Rattle.tree_model.specs.Tree.{Depth, Released, child_at, depth_of_all, trees}
-use Rattle.raw_array.specs.Members.{ArrayTree, Cost, cost_of_all}
-use Rattle.raw_schema.specs.Members.{Nodes}
-use Rattle.col_build.specs.Encoding.{Fits, encoded}
-use Rattle.col_build.specs.Finished.{blocks_of}
-use Rattle.data_types.specs.ColumnKinds.{table_type, type_of_column, type_of_columns, types_of_columns}
-use Rattle.data_types.specs.KindTrees.{KindTree}
-use Rattle.schema_check.specs.ColumnSchema.{SchemaOf, schema_of_column}
-use Rattle.schema_check.specs.Schemas.{TypedOf}
-use Rattle.layout_rules.specs.Values.{each, rows_of, values_of}
-use Rattle.layout_rules.specs.Walk.{ChunkOk}
-use Rattle.arr_export.specs.ArrayTrees.{IsPlaceOf, column_tree, flat_type, looked_up, rows_of_values, table_tree}
+use Rattle.tree_model.specs.promise.TreeData.{Released, trees}
+use Rattle.tree_model.specs.promise.TreeParts.{child_at}
+use Rattle.tree_model.specs.Tree.{Depth, depth_of_all}
+use Rattle.raw_array.specs.promise.Members.{ArrayTree, Cost}
+use Rattle.raw_array.specs.Members.{cost_of_all}
+use Rattle.tree_model.specs.promise.TreeCost.{Nodes}
+use Rattle.col_build.specs.promise.Encoding.{encoded}
+use Rattle.col_build.specs.Encoding.{Fits}
+use Rattle.col_build.specs.promise.Finished.{blocks_of}
+use Rattle.data_types.specs.promise.ColumnKinds.{table_type, type_of_column, type_of_columns, types_of_columns}
+use Rattle.data_types.specs.promise.KindTrees.{KindTree}
+use Rattle.schema_check.specs.promise.ColumnSchema.{SchemaOf, schema_of_column}
+use Rattle.schema_check.specs.promise.Schemas.{TypedOf}
+use Rattle.layout_rules.specs.promise.Values.{each, rows_of, values_of}
+use Rattle.layout_rules.specs.promise.Walk.{ChunkOk}
+use Rattle.arr_export.specs.promise.ArrayTrees.{column_tree, table_tree}
+use Rattle.arr_export.specs.ArrayTrees.{IsPlaceOf, flat_type, looked_up, rows_of_values}
 use Rattle.arr_export.specs.SchemaSize.{nodes_of_columns}
-use Rattle.arr_export.specs.ValueColumns.{HasEntries, IsValueColumn, TypedValues, ValueColumn, items_of, tree_of, type_of, values_by}
+use Rattle.arr_export.specs.promise.ValueColumns.{TypedValues, ValueColumn}
+use Rattle.arr_export.specs.ValueColumns.{HasEntries, IsValueColumn, items_of, tree_of, type_of, values_by}
 use Rattle.stream_face.specs.Lawful.{AreItems, AreValues, DictsAreFull, DictsHaveBytes, IsChunkOf, IsTable, LawfulColumns, column_leaves}
 use Rattle.column_fill.proofs.ColumnCosts.{column-cost, few-blocks, few-present}
 use Rattle.column_fill.proofs.ValuesTaken.{values-fit}

@@ -7,20 +7,21 @@ use Rattle.std.proofs.lemmas.List.{append_assoc, length-append, length-replicate
 use Rattle.std.proofs.lemmas.Grind.{flat_map-append}
 use Rattle.std.specs.Prelude.{Option, None, Some, if◌then◌else◌, nat_lt}
 use Rattle.std.specs.List.{concat, flat_map}
-use Rattle.data_types.specs.FieldText.{Form, form_of}
-use Rattle.data_types.specs.Storage.{storage_of}
-use Rattle.data_types.specs.Value.{Value, Null, byte_total, bytes_of}
+use Rattle.data_types.specs.promise.FieldText.{Form, form_of}
+use Rattle.data_types.specs.promise.Storage.{storage_of}
+use Rattle.data_types.specs.promise.Value.{Value, Null, byte_total, bytes_of}
 use Rattle.data_types.specs.declared.kind.DataType.{DataType}
 use Rattle.data_types.specs.declared.storage.Storage.{Storage}
-use Rattle.col_build.specs.Encoding.{Fits, are_within, is_by_offsets, is_wide, is_within, push_fault}
+use Rattle.col_build.specs.promise.Encoding.{are_within, is_by_offsets, is_wide, is_within}
+use Rattle.col_build.specs.Encoding.{Fits, push_fault}
 use Rattle.col_build.specs.Holding.{Holds}
 use Rattle.col_build.specs.Times.{TakesTimes}
 use Rattle.col_build.specs.declared.builder.Builder.{Builder}
-use Rattle.data_types.specs.Table.{Flat}
-use Rattle.raw_array.specs.Members.{ArrayTree}
-use Rattle.data_types.specs.ColumnKinds.{type_of_kind}
-use Rattle.data_types.specs.KindTrees.{kind_in}
-use Rattle.layout_rules.specs.Values.{tree_items, value_at}
+use Rattle.data_types.specs.promise.Table.{Flat}
+use Rattle.raw_array.specs.promise.Members.{ArrayTree}
+use Rattle.data_types.specs.promise.ColumnKinds.{type_of_kind}
+use Rattle.data_types.specs.promise.KindTrees.{kind_in}
+use Rattle.layout_rules.specs.promise.Values.{tree_items, value_at}
 use Rattle.arr_import.specs.Plain.{ShowsItems, is_valid_in, storage_in, valid_item}
 use Rattle.arr_import.specs.declared.plain.Plain.{Plain}
 use Rattle.arr_import.specs.Window.{Window, item_at, whole}

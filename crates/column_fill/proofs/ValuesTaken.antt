@@ -8,16 +8,18 @@ use Rattle.std.specs.Prelude.{Option, None, Some, ◌⊎◌, ℤ, pos, negsuc, n
 use Rattle.std.specs.List.{concat}
 use Rattle.std.proofs.lemmas.List.{length-append}
 use Rattle.data_types.specs.ColumnForms.{IsColumnKind}
-use Rattle.data_types.specs.FieldText.{Form, Truths, Wholes, FloatBits, Text, HexBytes, SizedHex, Decimals, IsOfForm, IsOfSome, IsValueOf}
-use Rattle.data_types.specs.FieldText.{form_of, in_range, stored_form}
+use Rattle.data_types.specs.promise.FieldText.{Form, Truths, Wholes, FloatBits, Text, HexBytes, SizedHex, Decimals}
+use Rattle.data_types.specs.FieldText.{IsOfForm, IsOfSome, IsValueOf}
+use Rattle.data_types.specs.promise.FieldText.{form_of, in_range, stored_form}
 use Rattle.data_types.specs.Kinds.{KindOk}
-use Rattle.data_types.specs.Storage.{storage_of}
-use Rattle.data_types.specs.Value.{Value, Null, Truth, Whole, Bits, Bytes, Items, Fields, byte_total, bytes_of}
+use Rattle.data_types.specs.promise.Storage.{storage_of}
+use Rattle.data_types.specs.promise.Value.{Value, Null, Truth, Whole, Bits, Bytes, Items, Fields, byte_total, bytes_of}
 use Rattle.data_types.specs.declared.kind.DataType.{DataType}
 use Rattle.data_types.specs.declared.kind.DataType.TheVariants as kinds
 use Rattle.data_types.specs.declared.storage.Storage.{Storage}
 use Rattle.data_types.specs.declared.storage.Storage.TheVariants as stored
-use Rattle.col_build.specs.Encoding.{Fits, are_bounded, are_within, fault_if, form_fault, is_by_offsets, is_form, is_storable, is_text, is_wide, is_within}
+use Rattle.col_build.specs.promise.Encoding.{are_within, is_by_offsets, is_wide, is_within}
+use Rattle.col_build.specs.Encoding.{Fits, are_bounded, fault_if, form_fault, is_form, is_storable, is_text}
 use Rattle.col_build.specs.Encoding.{push_fault}
 use Rattle.col_build.specs.declared.item.PushFault.TheVariants.{WrongKind, OutOfRange, NotText}
 use Rattle.stream_face.specs.Lawful.{AreValues}

@@ -1,18 +1,18 @@
 -- The items of a column that have given numbers, and what they meet where they make a column of their own.
 use Rattle.std.specs.Prelude.{◌≡◌, ◌+◌, ◌<◌, ℕ, List, map, replicate, All, if◌then◌else◌}
 use Rattle.std.specs.List.{flat_map}
-use Rattle.data_types.specs.Table.{Flat}
-use Rattle.data_types.specs.Storage.{storage_of}
-use Rattle.data_types.specs.Value.{Value, Null}
+use Rattle.data_types.specs.promise.Table.{Flat}
+use Rattle.data_types.specs.promise.Storage.{storage_of}
+use Rattle.data_types.specs.promise.Value.{Value, Null}
 use Rattle.data_types.specs.declared.kind.DataType.{DataType}
 use Rattle.col_build.specs.Encoding.{Fits}
 use Rattle.arr_import.specs.Plain.{IsItemThere, is_valid_in, storage_in, valid_item}
 use Rattle.arr_import.specs.declared.plain.Plain.{Plain}
-use Rattle.raw_array.specs.Members.{ArrayTree}
-use Rattle.data_types.specs.ColumnKinds.{type_of_kind}
-use Rattle.data_types.specs.KindTrees.{KindTree}
-use Rattle.layout_rules.specs.Values.{tree_items, value_at}
-use Rattle.layout_rules.specs.Walk.{LayoutOk}
+use Rattle.raw_array.specs.promise.Members.{ArrayTree}
+use Rattle.data_types.specs.promise.ColumnKinds.{type_of_kind}
+use Rattle.data_types.specs.promise.KindTrees.{KindTree}
+use Rattle.layout_rules.specs.promise.Values.{tree_items, value_at}
+use Rattle.layout_rules.specs.promise.Walk.{LayoutOk}
 use Rattle.column_fill.specs.declared.runs.Run.{Run}
 
 -- the items of numbers that are counted from an item of an array's window on

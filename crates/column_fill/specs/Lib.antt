@@ -1,4 +1,4 @@
+pub mod promise
 pub mod Takes
 pub mod Tables
 pub mod Gathered
-pub mod FlatColumns

@@ -1,13 +1,15 @@
 -- A table whose columns are made of values: its columns, its rows and its chunk, and what the values meet where all of it is lawful.
 use Rattle.std.specs.Prelude.{◌≡◌, ◌≢◌, ◌≤◌, ◌^◌, ℕ, true, List, length, map, Option, None, Some, All}
 use Rattle.data_types.specs.ColumnForms.{IsColumnKind}
-use Rattle.data_types.specs.Table.{Column, Row, Kind, Flat, Dict}
-use Rattle.data_types.specs.Value.{Null}
+use Rattle.data_types.specs.promise.Table.{Column, Row, Kind, Flat, Dict}
+use Rattle.data_types.specs.promise.Value.{Null}
 use Rattle.data_types.specs.declared.kind.DataType.{DataType}
 use Rattle.data_types.specs.declared.kind.DataType.TheVariants as kinds
-use Rattle.raw_array.specs.Members.{ArrayTree}
-use Rattle.arr_export.specs.ArrayTrees.{IsPlaceOf, rows_of_values, table_tree}
-use Rattle.arr_export.specs.ValueColumns.{TypedValues, ValueColumn, items_of, tree_of}
+use Rattle.raw_array.specs.promise.Members.{ArrayTree}
+use Rattle.arr_export.specs.promise.ArrayTrees.{table_tree}
+use Rattle.arr_export.specs.ArrayTrees.{IsPlaceOf, rows_of_values}
+use Rattle.arr_export.specs.promise.ValueColumns.{TypedValues, ValueColumn}
+use Rattle.arr_export.specs.ValueColumns.{items_of, tree_of}
 use Rattle.stream_face.specs.Lawful.{AreValues, HasBytes}
 
 -- a column: its name, and its values or, where it has a dictionary, the places of its values there

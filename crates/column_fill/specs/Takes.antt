@@ -1,7 +1,7 @@
 -- What a builder takes of a column's items.
 use Rattle.std.specs.Prelude.{◌≡◌, ◌<◌, List, length, None}
-use Rattle.data_types.specs.Storage.{storage_of}
-use Rattle.data_types.specs.Value.{Value, Null, Truth, Whole, Bits, Bytes}
+use Rattle.data_types.specs.promise.Storage.{storage_of}
+use Rattle.data_types.specs.promise.Value.{Value, Null, Truth, Whole, Bits, Bytes}
 use Rattle.data_types.specs.declared.kind.DataType.{DataType}
 use Rattle.data_types.specs.declared.storage.Storage.{Storage}
 use Rattle.data_types.specs.declared.storage.Storage.TheVariants as stored

@@ -1,15 +1,17 @@
 //! The array that is made of a builder's column.
 ghost use Rattle.std.specs.Prelude.{◌≡◌, ◌+◌, ◌≤◌, List, Option, IfOk, OnErr, OnOk};
-ghost use Rattle.data_types.specs.Value.{Value};
+ghost use Rattle.data_types.specs.promise.Value.{Value};
 ghost use Rattle.data_types.specs.declared.kind.DataType.{DataType as AType};
-ghost use Rattle.tree_model.specs.Tree.{maybe_tree};
-ghost use Rattle.unit_pass.specs.Tally.{risen};
+ghost use Rattle.tree_model.specs.promise.TreeData.{maybe_tree};
+ghost use Rattle.unit_pass.specs.promise.Tally.{risen};
 ghost use Rattle.unit_pass.specs.declared.pass.TheConstants.{SUPPLY};
-ghost use Rattle.raw_array.specs.Members.{Cost, cost_of_maybe};
+ghost use Rattle.raw_array.specs.promise.Members.{Cost};
+ghost use Rattle.raw_array.specs.Members.{cost_of_maybe};
 ghost use Rattle.col_build.specs.Encoding.{Fits};
-ghost use Rattle.col_build.specs.Finished.{blocks_of};
+ghost use Rattle.col_build.specs.promise.Finished.{blocks_of};
 ghost use Rattle.col_build.specs.Holding.{Holds};
-ghost use Rattle.arr_export.specs.ArrayTrees.{AreIndicesIf, column_tree};
+ghost use Rattle.arr_export.specs.promise.ArrayTrees.{column_tree};
+ghost use Rattle.arr_export.specs.ArrayTrees.{AreIndicesIf};
 
 use arr_export::{export_column, let_go_column};
 use col_build::{Builder, SpareBuffers};

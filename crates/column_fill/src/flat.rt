@@ -1,13 +1,14 @@
 //! Which columns are flat, and their types.
 ghost use Rattle.std.specs.Prelude.{◌≡◌, true};
-ghost use Rattle.data_types.specs.FieldText.{form_of};
+ghost use Rattle.data_types.specs.promise.FieldText.{form_of};
 ghost use Rattle.data_types.specs.Kinds.{KindOk};
-ghost use Rattle.data_types.specs.Table.{Flat};
+ghost use Rattle.data_types.specs.promise.Table.{Flat};
 ghost use Rattle.col_build.specs.Encoding.{HasForm};
-ghost use Rattle.data_types.specs.ColumnKinds.{type_of_kind};
-ghost use Rattle.data_types.specs.KindTrees.{TypedOk, kind_in};
-ghost use Rattle.data_types.specs.TypedView.{typed_of};
-ghost use Rattle.column_fill.specs.FlatColumns.{is_flat_column};
+ghost use Rattle.data_types.specs.promise.ColumnKinds.{type_of_kind};
+ghost use Rattle.data_types.specs.promise.KindTrees.{kind_in};
+ghost use Rattle.data_types.specs.KindTrees.{TypedOk};
+ghost use Rattle.data_types.specs.promise.TypedView.{typed_of};
+ghost use Rattle.column_fill.specs.promise.FlatColumns.{is_flat_column};
 
 use array_laws::flat_types_have_no_children;
 use data_types::{DataType, Typed, is_flat, kinds_of_typed};

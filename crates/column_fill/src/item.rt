@@ -5,12 +5,12 @@ ghost use Rattle.data_types.specs.declared.storage.Storage.TheVariants.{Between,
 ghost use Rattle.col_build.specs.Holding.{Adds, Keeps};
 ghost use Rattle.col_build.specs.Items.{value_of};
 ghost use Rattle.col_build.specs.Times.{AddsSome, AddsTimes, TakesTimes};
-ghost use Rattle.data_types.specs.Value.{Null};
+ghost use Rattle.data_types.specs.promise.Value.{Null};
 ghost use Rattle.arr_import.specs.Cols.{window_of};
 ghost use Rattle.arr_import.specs.Plain.{IsItemThere, is_valid_in, storage_in, valid_item};
 ghost use Rattle.arr_import.specs.Window.{item_at};
 ghost use Rattle.column_fill.specs.Takes.{IsStored, Takes};
-ghost use Rattle.layout_rules.specs.Rules.{window_limit};
+ghost use Rattle.layout_rules.specs.promise.Rules.{window_limit};
 
 use arr_import::{Col, Plain};
 use col_build::{Builder, Item, PushFault};

@@ -1,11 +1,11 @@
 //! A builder filled with the items of given numbers.
 ghost use Rattle.std.specs.Prelude.{◌≡◌, false, IfOk};
-ghost use Rattle.data_types.specs.Table.{Flat};
+ghost use Rattle.data_types.specs.promise.Table.{Flat};
 ghost use Rattle.data_types.specs.declared.storage.Storage.TheVariants.{Between, Truths, Wholes};
 ghost use Rattle.col_build.specs.Holding.{Holds};
-ghost use Rattle.data_types.specs.ColumnKinds.{type_of_kind};
+ghost use Rattle.data_types.specs.promise.ColumnKinds.{type_of_kind};
 ghost use Rattle.data_types.specs.KindTrees.{TypedOk};
-ghost use Rattle.data_types.specs.TypedView.{typed_of};
+ghost use Rattle.data_types.specs.promise.TypedView.{typed_of};
 ghost use Rattle.arr_import.specs.Plain.{storage_in};
 ghost use Rattle.column_fill.specs.Gathered.{CanGather, CanGatherPlaces, shown_at, values_at};
 

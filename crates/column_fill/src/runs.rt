@@ -1,10 +1,10 @@
 //! A builder filled with the items of runs.
 ghost use Rattle.std.specs.Prelude.{◌≡◌, IfOk};
-ghost use Rattle.data_types.specs.Table.{Flat};
+ghost use Rattle.data_types.specs.promise.Table.{Flat};
 ghost use Rattle.col_build.specs.Holding.{Holds};
-ghost use Rattle.data_types.specs.ColumnKinds.{type_of_kind};
+ghost use Rattle.data_types.specs.promise.ColumnKinds.{type_of_kind};
 ghost use Rattle.data_types.specs.KindTrees.{TypedOk};
-ghost use Rattle.data_types.specs.TypedView.{typed_of};
+ghost use Rattle.data_types.specs.promise.TypedView.{typed_of};
 ghost use Rattle.column_fill.specs.Gathered.{CanGatherRuns, values_of_runs};
 
 use crate::push_item_times;

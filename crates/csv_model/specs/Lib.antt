@@ -1,7 +1,4 @@
-pub mod Reading
-pub mod Text
+pub mod promise
 pub mod Batches
-pub mod Header
 pub mod Examples
 pub mod FaultTexts
-pub mod Made

@@ -5,9 +5,9 @@
 //! quoted. So n alone gives each byte.
 //!
 //! [`made`] asks for the one block of memory of the text before it writes the first byte, and answers `NoMemory` only where
-//! there is none. A row takes no memory of its own. The definitions are in `specs/Made.antt`.
+//! there is none. A row takes no memory of its own. The definitions are in `specs/promise/Made.antt`.
 ghost use Rattle.std.specs.Prelude.{◌≡◌, ◌≤◌, ◌++◌, ℕ, length, codes, IfOk, OnOk};
-ghost use Rattle.csv_model.specs.Made.{made, made_row, paid_text};
+ghost use Rattle.csv_model.specs.promise.Made.{made, made_row, paid_text};
 
 use itoa::Buffer;
 use std::alloc::Global;

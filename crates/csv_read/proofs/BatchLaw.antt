@@ -5,10 +5,10 @@ use Rattle.std.proofs.lemmas.Bool.{cases_Bool, eqb-true}
 use Rattle.std.proofs.lemmas.List.{take-append-drop}
 use Rattle.std.specs.List.{filter, onto_first}
 use Rattle.col_build.specs.declared.builder.Builder.{Builder}
-use Rattle.data_types.specs.Table.{Column, Row}
+use Rattle.data_types.specs.promise.Table.{Column, Row}
 use Rattle.data_types.specs.declared.row_fault.RowFault.{RowFault}
-use Rattle.csv_model.specs.Batches.{Chunks, batches_if, cut, rows_before, whole_batches}
-use Rattle.csv_model.specs.Reading.{Record, body_from}
+use Rattle.csv_model.specs.promise.Batches.{Chunks, batches_if, cut, rows_before, whole_batches}
+use Rattle.csv_model.specs.promise.Reading.{Record, body_from}
 use Rattle.csv_read.specs.BatchesLeft.{BatchesLeft, IsNextBatch, batches_left, behind, columns_in}
 use Rattle.csv_read.specs.BodyRows.{with_rows}
 use Rattle.csv_read.proofs.Bodies.{body-split, few-taken, refused, rows-count}

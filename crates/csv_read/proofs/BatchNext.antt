@@ -1,7 +1,7 @@
 -- From one batch to the next.
 use Rattle.std.proofs.Common.{◌≡◌, ◌≤◌, ◌+◌, ◌^◌, ◌∙◌, ℕ, zero, suc, List, [], ◌∷◌, length, take, drop, refl, sym, ap, arith}
 use Rattle.col_build.specs.declared.builder.Builder.{Builder}
-use Rattle.csv_model.specs.Reading.{Record, body_from}
+use Rattle.csv_model.specs.promise.Reading.{Record, body_from}
 use Rattle.csv_read.specs.BatchesLeft.{BatchesLeft, IsNextBatch, at_end, columns_in}
 use Rattle.csv_read.specs.BodyRows.{HasBatch}
 use Rattle.csv_read.specs.RecordReader.{RecordsLeft}

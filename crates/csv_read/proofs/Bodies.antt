@@ -1,10 +1,10 @@
 -- The rows of records by those of the first ones.
 use Rattle.std.proofs.Common.{◌≡◌, ◌<◌, ◌+◌, ◌++◌, ◌∙◌, ◌⊎◌, ℕ, zero, suc, List, [], ◌∷◌, length, take, drop, Result, Ok, Err, refl, sym, ap, subst, arith, inl}
 use Rattle.std.proofs.Common.{inr}
-use Rattle.data_types.specs.Table.{Column, Row}
+use Rattle.data_types.specs.promise.Table.{Column, Row}
 use Rattle.data_types.specs.declared.row_fault.RowFault.{RowFault}
-use Rattle.csv_model.specs.Batches.{row_before, rows_before}
-use Rattle.csv_model.specs.Reading.{Record, body_from, row_of, with_row}
+use Rattle.csv_model.specs.promise.Batches.{row_before, rows_before}
+use Rattle.csv_model.specs.promise.Reading.{Record, body_from, row_of, with_row}
 use Rattle.csv_read.specs.BodyRows.{with_rows}
 use Rattle.csv_read.proofs.Widths.{ok-row}
 

@@ -4,9 +4,9 @@ use Rattle.std.proofs.Common.{subst, arith, inl, inr, length-append, append_asso
 use Rattle.std.proofs.lemmas.List.{map-append, take-append-drop}
 use Rattle.std.specs.List.{concat}
 use Rattle.col_build.specs.declared.builder.Builder.{Builder}
-use Rattle.data_types.specs.Table.{Column, Kind, Row}
-use Rattle.data_types.specs.Value.{Value, Null, byte_total, bytes_of}
-use Rattle.csv_model.specs.Reading.{Record, body_from, row_of, with_row}
+use Rattle.data_types.specs.promise.Table.{Column, Kind, Row}
+use Rattle.data_types.specs.promise.Value.{Value, Null, byte_total, bytes_of}
+use Rattle.csv_model.specs.promise.Reading.{Record, body_from, row_of, with_row}
 use Rattle.data_types.specs.declared.row_fault.RowFault.{RowFault}
 use Rattle.csv_read.specs.Body.{HoldEach, HoldsBody, HoldsKind, IsBodyFault, column_values}
 use Rattle.csv_read.specs.BodyRows.{AddsRow, HasBatch, HasRoomFor, HasRows, IsColumnOf, IsRowsFault, RefusesRow, RowsSoFar, with_rows}

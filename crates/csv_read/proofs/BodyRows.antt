@@ -12,10 +12,10 @@ use Rattle.col_build.specs.declared.builder.Builder.{Builder}
 use Rattle.data_types.specs.declared.kind.DataType.{DataType}
 use Rattle.data_types.specs.declared.kind.ColumnType.{ColumnType}
 use Rattle.data_types.specs.ColumnView.{column_of}
-use Rattle.data_types.specs.FieldText.{read_field}
-use Rattle.data_types.specs.Table.{Column, Columns, Flat, Kind, Row, no_members}
-use Rattle.data_types.specs.Value.{Value, Null, bytes_of}
-use Rattle.csv_model.specs.Reading.{Record, field_in, row_of, values_from, values_step, with_value}
+use Rattle.data_types.specs.promise.FieldText.{read_field}
+use Rattle.data_types.specs.promise.Table.{Column, Columns, Flat, Kind, Row, no_members}
+use Rattle.data_types.specs.promise.Value.{Value, Null, bytes_of}
+use Rattle.csv_model.specs.promise.Reading.{Record, field_in, row_of, values_from, values_step, with_value}
 use Rattle.data_types.specs.declared.row_fault.RowFault.{RowFault}
 use Rattle.data_types.specs.declared.row_fault.RowFault.TheVariants as row
 use Rattle.csv_read.specs.Body.{column_values}

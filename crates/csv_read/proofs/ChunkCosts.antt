@@ -1,17 +1,19 @@
 -- What a column costs: a node, and a hold for each buffer of its encoding.
 use Rattle.std.proofs.Common.{◌≡◌, ◌∙◌, ◌≤◌, ◌+◌, ◌++◌, ℕ, Bool, List, [], ◌∷◌, length, Option, None, Some, refl, ap, arith}
 use Rattle.buf_block.specs.declared.hold.BufView.{BufView}
-use Rattle.data_types.specs.FieldText.{Form, Truths, Wholes, FloatBits, Text, HexBytes, SizedHex, Decimals, form_of}
-use Rattle.data_types.specs.Value.{Value}
+use Rattle.data_types.specs.promise.FieldText.{Form, Truths, Wholes, FloatBits, Text, HexBytes, SizedHex, Decimals, form_of}
+use Rattle.data_types.specs.promise.Value.{Value}
 use Rattle.data_types.specs.declared.kind.DataType.{DataType}
 use Rattle.std.proofs.lemmas.List.Sums.{sum_by-append, sum_by-cons}
 use Rattle.tree_model.proofs.Measures.{cost_of_all-append}
-use Rattle.tree_model.specs.Tree.{trees}
-use Rattle.raw_array.specs.Members.{ArrayTree, Cost, cost_of_all, holds, holds_of}
+use Rattle.tree_model.specs.promise.TreeData.{trees}
+use Rattle.raw_array.specs.promise.Members.{ArrayTree, Cost, holds, holds_of}
+use Rattle.raw_array.specs.Members.{cost_of_all}
 use Rattle.raw_array.specs.View.{buffers_of}
-use Rattle.col_build.specs.Encoding.{buffers_by, buffers_if, encoded, is_wide}
-use Rattle.col_build.specs.Finished.{AreMade, blocks_of, present_count}
-use Rattle.arr_export.specs.ArrayTrees.{column_tree, made_buffers}
+use Rattle.col_build.specs.promise.Encoding.{buffers_by, buffers_if, encoded, is_wide}
+use Rattle.col_build.specs.promise.Finished.{blocks_of, present_count}
+use Rattle.col_build.specs.Finished.{AreMade}
+use Rattle.arr_export.specs.promise.ArrayTrees.{column_tree, made_buffers}
 use Rattle.col_build.specs.declared.builder.Builder.{Builder}
 use Rattle.csv_read.specs.Chunks.{AreColumnsOf, IsColumnOf, all_blocks, own_blocks}
 

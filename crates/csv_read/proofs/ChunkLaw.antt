@@ -1,15 +1,16 @@
 -- The chunk of rows meets the rules of a chunk, and its rows are these.
 use Rattle.std.proofs.Common.{◌≡◌, ◌∙◌, ◌≤◌, ◌<◌, ◌+◌, ℕ, zero, suc, List, [], ◌∷◌, length, map, get_or, None, All, refl, ap, arith}
 use Rattle.std.proofs.lemmas.List.{get_or-map, length-map}
-use Rattle.data_types.specs.Table.{Column, Row, Kind, Flat, Dict, Columns}
-use Rattle.data_types.specs.Value.{Value, Null}
+use Rattle.data_types.specs.promise.Table.{Column, Row, Kind, Flat, Dict, Columns}
+use Rattle.data_types.specs.promise.Value.{Value, Null}
 use Rattle.data_types.specs.declared.kind.DataType.{DataType}
-use Rattle.tree_model.specs.Tree.{IsLive}
+use Rattle.tree_model.specs.promise.TreeParts.{IsLive}
 use Rattle.col_build.specs.Encoding.{Fits}
-use Rattle.layout_rules.specs.Values.{each, tree_items, values_of}
-use Rattle.layout_rules.specs.Walk.{LayoutOk}
-use Rattle.arr_export.specs.ArrayTrees.{AreLawful, HaveValues, column_tree, flat_type, rows_of_values}
-use Rattle.data_types.specs.ColumnKinds.{type_of_kind, types_of_columns}
+use Rattle.layout_rules.specs.promise.Values.{each, tree_items, values_of}
+use Rattle.layout_rules.specs.promise.Walk.{LayoutOk}
+use Rattle.arr_export.specs.promise.ArrayTrees.{column_tree}
+use Rattle.arr_export.specs.ArrayTrees.{AreLawful, HaveValues, flat_type, rows_of_values}
+use Rattle.data_types.specs.promise.ColumnKinds.{type_of_kind, types_of_columns}
 use Rattle.csv_read.specs.Body.{column_values}
 use Rattle.csv_read.specs.Chunks.{FitFrom, FitsKind, column_array, column_arrays}
 

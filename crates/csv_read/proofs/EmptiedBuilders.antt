@@ -2,7 +2,7 @@
 use Rattle.std.proofs.Common.{◌≡◌, ◌≤◌, ◌<◌, ◌+◌, ◌∙◌, ℕ, List, [], ◌∷◌, length, get_or, set, Result, Ok, Err, OnErr, OnOk, ap, arith, inl, inr, refl, subst, sym}
 use Rattle.std.proofs.lemmas.Bool.{cases_eq, cases_lt}
 use Rattle.std.proofs.lemmas.List.{get_or-set_other, get_or-set_same, get_or_default, length-set}
-use Rattle.data_types.specs.Table.{Column, Columns, Row, no_members}
+use Rattle.data_types.specs.promise.Table.{Column, Columns, Row, no_members}
 use Rattle.col_build.specs.Holding.{HoldsSome, Keeps}
 use Rattle.col_build.specs.declared.builder.Builder.{Builder}
 use Rattle.csv_read.specs.BodyRows.{HasRows}

@@ -4,8 +4,8 @@ use Rattle.std.specs.Option.{option_and_then}
 use Rattle.std.specs.Str.{bytes_eq, is_utf8}
 use Rattle.col_build.specs.Holding.{Adds}
 use Rattle.col_build.specs.declared.builder.Builder.{Builder}
-use Rattle.data_types.specs.FieldText.{Form, Text, form_of, read_field, read_form}
-use Rattle.data_types.specs.Value.{Null, Bytes}
+use Rattle.data_types.specs.promise.FieldText.{Form, Text, form_of, read_field, read_form}
+use Rattle.data_types.specs.promise.Value.{Null, Bytes}
 use Rattle.data_types.specs.declared.kind.DataType.{DataType}
 use Rattle.csv_read.specs.BodyRows.{AddsField, AddsSome, HasRoom, SpellsNone, TakesSome}
 use Rattle.field_codec.specs.FieldForms.{IsProper, form_in}

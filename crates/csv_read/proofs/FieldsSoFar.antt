@@ -5,8 +5,8 @@ use Rattle.std.proofs.lemmas.Bool.{cases_Bool, false≢true}
 use Rattle.std.proofs.lemmas.List.{get_or-set_other, length-set}
 use Rattle.std.proofs.lemmas.List.Folds.{list_all_at}
 use Rattle.col_build.specs.declared.builder.Builder.{Builder}
-use Rattle.csv_model.specs.Reading.{Record, values_from}
-use Rattle.data_types.specs.Table.{Column, Row}
+use Rattle.csv_model.specs.promise.Reading.{Record, values_from}
+use Rattle.data_types.specs.promise.Table.{Column, Row}
 use Rattle.data_types.specs.declared.row_fault.RowFault.TheVariants as row
 use Rattle.csv_read.specs.BodyRows.{AddsField, AddsFields, HasFields, HasRoom, HasRoomFor, HoldRows, SpellsNone}
 use Rattle.csv_read.specs.ColumnForms.{is_text_form}

@@ -9,14 +9,14 @@ use Rattle.std.specs.Prelude.{if◌then◌else◌, nat_le}
 use Rattle.std.specs.Str.{bytes_eq}
 use Rattle.data_types.specs.declared.kind.DataType.{DataType}
 use Rattle.data_types.specs.declared.kind.DataType.TheVariants as kinds
-use Rattle.data_types.specs.Table.{Column}
-use Rattle.csv_model.specs.Header.{Entry, column_for, fault_at, first_not_text, first_twice, header_columns, header_of, is_among, most_columns, names_fault}
-use Rattle.csv_model.specs.Header.{twice_behind, twice_fault, type_for, unknown_fault}
-use Rattle.csv_model.specs.Reading.{Record}
+use Rattle.data_types.specs.promise.Table.{Column}
+use Rattle.csv_model.specs.promise.Header.{Entry, column_for, fault_at, first_not_text, first_twice, header_columns, header_of, is_among, most_columns, names_fault}
+use Rattle.csv_model.specs.promise.Header.{twice_behind, twice_fault, type_for, unknown_fault}
+use Rattle.csv_model.specs.promise.Reading.{Record}
 use Rattle.csv_model.specs.declared.fault.HeaderFault.{HeaderFault}
 use Rattle.csv_model.specs.declared.fault.HeaderFault.TheVariants as faults
 use Rattle.stage_plan.specs.declared.types.TypeEntry.{TypeEntry}
-use Rattle.stage_plan.specs.Entries.{entries_of}
+use Rattle.stage_plan.specs.promise.Entries.{entries_of}
 use Rattle.field_codec.specs.TextColumns.{IsFlatOf, NamesDiffer}
 
 -- ---- names

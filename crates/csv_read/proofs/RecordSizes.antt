@@ -5,7 +5,7 @@ use Rattle.csv.specs.Machine.{Read, ends_at_end, next_record}
 use Rattle.csv.specs.Reading.{default_config, reader_state, records_from}
 use Rattle.csv.specs.declared.parser.State.{State}
 use Rattle.csv.specs.declared.reader.Reader.{Reader}
-use Rattle.csv_model.specs.Reading.{Record}
+use Rattle.csv_model.specs.promise.Reading.{Record}
 use Rattle.csv_read.specs.RecordReader.{IsReading, field_bytes, records_ahead, size_ahead, text_left}
 use Rattle.csv_read.proofs.RecordReading.{InTurn}
 

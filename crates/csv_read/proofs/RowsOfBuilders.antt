@@ -2,9 +2,9 @@
 use Rattle.std.proofs.Common.{◌≡◌, ◌∙◌, ◌≤◌, ◌<◌, ◌+◌, ℕ, zero, suc, List, [], ◌∷◌, length, get_or, All, refl, ap, subst, arith}
 use Rattle.std.proofs.lemmas.List.{length-map}
 use Rattle.std.proofs.lemmas.List.Sums.{sum_by-cons}
-use Rattle.data_types.specs.Table.{Column, Row, Kind, Flat, Dict, Columns}
-use Rattle.data_types.specs.Value.{Value, Null}
-use Rattle.raw_array.specs.Members.{ArrayTree}
+use Rattle.data_types.specs.promise.Table.{Column, Row, Kind, Flat, Dict, Columns}
+use Rattle.data_types.specs.promise.Value.{Value, Null}
+use Rattle.raw_array.specs.promise.Members.{ArrayTree}
 use Rattle.col_build.specs.Holding.{HoldsSome}
 use Rattle.col_build.specs.declared.builder.Builder.{Builder}
 use Rattle.arr_export.specs.ArrayTrees.{IsColumn}

@@ -2,8 +2,9 @@
 use Rattle.std.proofs.Common.{◌≡◌, ◌∙◌, ◌*◌, ◌/◌, ℕ, Bool, true, false, Some, ap, inl, inr, refl, subst, sym}
 use Rattle.col_build.specs.Holding.{HoldsFloats, HoldsWholes}
 use Rattle.col_build.specs.declared.builder.Builder.{Builder}
-use Rattle.data_types.specs.FieldText.{Decimals, FloatBits, IsFlatForm, Wholes, form_of, stored_form}
-use Rattle.data_types.specs.Storage.{storage_of}
+use Rattle.data_types.specs.promise.FieldText.{Decimals, FloatBits, Wholes, form_of, stored_form}
+use Rattle.data_types.specs.FieldText.{IsFlatForm}
+use Rattle.data_types.specs.promise.Storage.{storage_of}
 use Rattle.data_types.specs.declared.kind.DataType.{DataType}
 use Rattle.data_types.specs.declared.kind.DataType.TheVariants as kinds
 use Rattle.data_types.specs.declared.storage.Storage.{Storage}

@@ -9,14 +9,16 @@ use Rattle.std.specs.Prelude.{ℤ, pos, negsuc, neg_ℤ, nat_abs, nat_lt, not, �
 use Rattle.std.specs.Char.{is_ascii_hexdigit}
 use Rattle.std.specs.Str.{bytes_eq, is_utf8}
 use Rattle.std.specs.Str.Parse.{digits_value, signed_digits_value, starts_with_minus, without_leading_sign}
-use Rattle.col_build.specs.Encoding.{fault_if, is_by_offsets, is_wide, is_within, push_fault}
+use Rattle.col_build.specs.promise.Encoding.{is_by_offsets, is_wide, is_within}
+use Rattle.col_build.specs.Encoding.{fault_if, push_fault}
 use Rattle.col_build.specs.declared.item.PushFault.{PushFault}
 use Rattle.col_build.specs.declared.item.PushFault.TheVariants.{WrongKind, OutOfRange, NotText}
 use Rattle.data_types.proofs.FieldValues.{read_is_value}
 use Rattle.data_types.specs.declared.kind.DataType.{DataType}
-use Rattle.data_types.specs.FieldText.{Form, Truths, Wholes, FloatBits, Text, HexBytes, SizedHex, Decimals, IsFlatForm, IsOfSome, IsSomeFlat, IsValueOf}
-use Rattle.data_types.specs.FieldText.{form_of, hex_bytes, in_range, is_numeral, read_field, read_form, read_text, read_unscaled}
-use Rattle.data_types.specs.Value.{Value, Null, Truth, Whole, Bits, Bytes, byte_total, bytes_of}
+use Rattle.data_types.specs.promise.FieldText.{Form, Truths, Wholes, FloatBits, Text, HexBytes, SizedHex, Decimals}
+use Rattle.data_types.specs.FieldText.{IsFlatForm, IsOfSome, IsSomeFlat, IsValueOf}
+use Rattle.data_types.specs.promise.FieldText.{form_of, hex_bytes, in_range, is_numeral, read_field, read_form, read_text, read_unscaled}
+use Rattle.data_types.specs.promise.Value.{Value, Null, Truth, Whole, Bits, Bytes, byte_total, bytes_of}
 
 -- ---- what an answer comes from
 

@@ -16,7 +16,7 @@ use Rattle.csv.specs.declared.parser.Action.{Action}
 use Rattle.csv.specs.declared.parser.Action.TheVariants as act
 use Rattle.csv.specs.declared.parser.State.{State}
 use Rattle.csv.specs.declared.parser.State.TheVariants as st
-use Rattle.csv_model.specs.Reading.{Record, records_of}
+use Rattle.csv_model.specs.promise.Reading.{Record, records_of}
 use Rattle.csv_read.specs.Texts.{AreTexts}
 
 -- ---- bytes of no ASCII

@@ -2,9 +2,9 @@
 use Rattle.std.proofs.Common.{◌≡◌, ◌+◌, ℕ, zero, suc, List, [], ◌∷◌, length, All, Option, None, Some, Result, Ok, Err, refl, inl, inr, ap, sym, subst, arith}
 use Rattle.std.proofs.lemmas.Bool.{cases_Bool, eqb-true}
 use Rattle.std.specs.Prelude.{◌==◌}
-use Rattle.data_types.specs.Table.{Column, Row}
-use Rattle.data_types.specs.Value.{Value}
-use Rattle.csv_model.specs.Reading.{Record, body_from, field_in, row_of, values_from, values_step, with_row, with_value}
+use Rattle.data_types.specs.promise.Table.{Column, Row}
+use Rattle.data_types.specs.promise.Value.{Value}
+use Rattle.csv_model.specs.promise.Reading.{Record, body_from, field_in, row_of, values_from, values_step, with_row, with_value}
 use Rattle.data_types.specs.declared.row_fault.RowFault.{RowFault}
 use Rattle.data_types.specs.declared.row_fault.RowFault.TheVariants as row
 

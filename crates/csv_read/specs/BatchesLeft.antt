@@ -2,10 +2,10 @@
 use Rattle.std.specs.Prelude.{◌≡◌, ◌≤◌, ◌+◌, ◌^◌, ℕ, List, [], ◌∷◌, length, map, take, drop, Ok}
 use Rattle.col_build.specs.declared.builder.Builder.{Builder}
 use Rattle.data_types.specs.ColumnView.{column_of}
-use Rattle.data_types.specs.Table.{Column, Row}
+use Rattle.data_types.specs.promise.Table.{Column, Row}
 use Rattle.data_types.specs.declared.kind.ColumnType.{ColumnType}
-use Rattle.csv_model.specs.Batches.{Chunks, batches_if, rows_before}
-use Rattle.csv_model.specs.Reading.{Record, body_from}
+use Rattle.csv_model.specs.promise.Batches.{Chunks, batches_if, rows_before}
+use Rattle.csv_model.specs.promise.Reading.{Record, body_from}
 use Rattle.csv_read.specs.BodyRows.{IsRowsFault}
 use Rattle.csv_read.specs.Body.{HoldRows}
 use Rattle.csv_read.specs.declared.body.BodyFault.{BodyFault}

@@ -3,10 +3,10 @@ use Rattle.std.specs.Prelude.{◌≡◌, ◌≤◌, ◌<◌, ◌^◌, ℕ, List,
 use Rattle.col_build.specs.Holding.{Holds}
 use Rattle.col_build.specs.declared.builder.Builder.{Builder}
 -- the values of a column
-pub use Rattle.data_types.specs.Parts.{column_values}
-use Rattle.data_types.specs.Table.{Column, Kind, Flat, Row}
-use Rattle.data_types.specs.Value.{Value}
-use Rattle.csv_model.specs.Reading.{Record, body}
+pub use Rattle.data_types.specs.promise.Parts.{column_values}
+use Rattle.data_types.specs.promise.Table.{Column, Kind, Flat, Row}
+use Rattle.data_types.specs.promise.Value.{Value}
+use Rattle.csv_model.specs.promise.Reading.{Record, body}
 use Rattle.csv_read.specs.declared.body.BodyFault.{BodyFault}
 use Rattle.csv_read.specs.declared.body.BodyFault.TheVariants as faults
 

@@ -1,14 +1,15 @@
 -- The columns of a body in the making, and one more row for them, under a mark for null.
 use Rattle.std.specs.Prelude.{◌≡◌, ◌≤◌, ◌<◌, ◌+◌, ◌^◌, ◌++◌, ℕ, List, [], ◌∷◌, length, get_or, take, drop, Option, None, Some, Result, Ok, Err}
-use Rattle.col_build.specs.Encoding.{most_values, narrow_limit}
+use Rattle.col_build.specs.promise.Encoding.{narrow_limit}
+use Rattle.col_build.specs.Encoding.{most_values}
 use Rattle.col_build.specs.Holding.{Adds, Holds}
 pub use Rattle.col_build.specs.Holding.{Takes}
 use Rattle.col_build.specs.declared.builder.Builder.{Builder}
 use Rattle.data_types.specs.declared.kind.DataType.{DataType}
-use Rattle.data_types.specs.FieldText.{form_of, read_field}
-use Rattle.data_types.specs.Table.{Column, Flat, Row}
-use Rattle.data_types.specs.Value.{Value, Null, byte_total, bytes_of}
-use Rattle.csv_model.specs.Reading.{Record, body_from, row_of, values_from}
+use Rattle.data_types.specs.promise.FieldText.{form_of, read_field}
+use Rattle.data_types.specs.promise.Table.{Column, Flat, Row}
+use Rattle.data_types.specs.promise.Value.{Value, Null, byte_total, bytes_of}
+use Rattle.csv_model.specs.promise.Reading.{Record, body_from, row_of, values_from}
 use Rattle.data_types.specs.declared.row_fault.RowFault.{RowFault}
 use Rattle.csv_read.specs.Body.{column_values}
 use Rattle.field_codec.specs.FieldForms.{IsProper, form_in}

@@ -1,16 +1,16 @@
 -- The chunk of rows: a struct with a column for each column of the table ("Arrow Columnar Format", "Struct Layout").
 use Rattle.std.specs.Prelude.{◌≡◌, ℕ, ◌+◌, List, [], ◌∷◌, length, None}
 use Rattle.std.specs.List.{AllZip, sum_by}
-use Rattle.data_types.specs.Table.{Column, Row, Kind, Flat}
-use Rattle.data_types.specs.Value.{Value}
-use Rattle.tree_model.specs.Tree.{Released}
+use Rattle.data_types.specs.promise.Table.{Column, Row, Kind, Flat}
+use Rattle.data_types.specs.promise.Value.{Value}
+use Rattle.tree_model.specs.promise.TreeData.{Released}
 use Rattle.data_types.specs.declared.kind.DataType.{DataType}
-use Rattle.raw_array.specs.Members.{ArrayTree, holds, members_of}
+use Rattle.raw_array.specs.promise.Members.{ArrayTree, holds, members_of}
 use Rattle.col_build.specs.Encoding.{Fits}
-use Rattle.col_build.specs.Finished.{blocks_of}
+use Rattle.col_build.specs.promise.Finished.{blocks_of}
 use Rattle.col_build.specs.Holding.{Holds}
 use Rattle.col_build.specs.declared.builder.Builder.{Builder}
-use Rattle.arr_export.specs.ArrayTrees.{column_tree, table_tree}
+use Rattle.arr_export.specs.promise.ArrayTrees.{column_tree, table_tree}
 use Rattle.csv_read.specs.Body.{column_values}
 
 -- the array of a column of plain values

@@ -3,8 +3,8 @@ use Rattle.std.specs.Prelude.{◌≡◌, ℕ, zero, suc, pos, negsuc, true, fals
 use Rattle.std.specs.Coded.{Coded, code_by, coded×, coded_list}
 use Rattle.std.proofs.Common.{ap}
 use base.Stored.{Gv, gnil, gnum, gcons}
-use Rattle.data_types.specs.Table.{Row}
-use Rattle.data_types.specs.Value.{Value, Values, Null, Truth, Whole, Bits, Bytes, Items, Fields, no_values, more_values}
+use Rattle.data_types.specs.promise.Table.{Row}
+use Rattle.data_types.specs.promise.Value.{Value, Values, Null, Truth, Whole, Bits, Bytes, Items, Fields, no_values, more_values}
 use Rattle.data_types.specs.contracts.kind.ColumnType as kinds
 use Rattle.data_types.specs.declared.kind.ColumnType.{ColumnType}
 

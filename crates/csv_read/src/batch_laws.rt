@@ -5,7 +5,7 @@ ghost use Rattle.data_types.specs.ColumnView.{column_of};
 ghost use Rattle.data_types.specs.declared.kind.ColumnType.{ColumnType};
 ghost use Rattle.data_types.specs.declared.row_fault.RowFault.{RowFault};
 ghost use Rattle.csv_model.specs.Batches.{Batches};
-ghost use Rattle.csv_model.specs.Reading.{behind_header, records_of};
+ghost use Rattle.csv_model.specs.promise.Reading.{behind_header, records_of};
 ghost use Rattle.csv_read.specs.BatchesLeft.{BatchesLeft, IsNextBatch, IsNextFault, all_left, batches_left, behind};
 ghost use Rattle.csv_read.specs.declared.body.BodyFault.TheVariants as faults;
 

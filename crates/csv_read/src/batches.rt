@@ -2,10 +2,10 @@
 ghost use Rattle.std.specs.Prelude.{◌≡◌, ◌≤◌, ◌<◌, ◌+◌, ◌*◌, ◌^◌, [], List, map, length, drop, pos, false, true, None, Ok, IfErr, IfOk, IfSome, OnErr, OnOk};
 ghost use Rattle.data_types.specs.ColumnView.{column_of};
 ghost use Rattle.col_build.specs.Encoding.{most_values};
-ghost use Rattle.data_types.specs.Table.{Row};
+ghost use Rattle.data_types.specs.promise.Table.{Row};
 ghost use Rattle.field_codec.specs.TextColumns.{AreAllowed, AreProper};
-ghost use Rattle.raw_array.specs.Members.{Cost};
-ghost use Rattle.unit_pass.specs.Tally.{risen};
+ghost use Rattle.raw_array.specs.promise.Members.{Cost};
+ghost use Rattle.unit_pass.specs.promise.Tally.{risen};
 ghost use Rattle.csv_read.specs.Body.{HoldRows};
 ghost use Rattle.csv_read.specs.Chunks.{chunk_blocks, chunk_of};
 ghost use Rattle.csv_read.specs.Emptied.{AreEmptied, AreSpent};

@@ -1,7 +1,7 @@
 //! The body of a text: the rows of the records behind its header.
 ghost use Rattle.std.specs.Prelude.{◌≡◌, ◌≤◌, ◌+◌, ◌^◌, [], List, map, IfErr, IfOk, OnOk};
 ghost use Rattle.data_types.specs.ColumnView.{column_of};
-ghost use Rattle.data_types.specs.Table.{Column};
+ghost use Rattle.data_types.specs.promise.Table.{Column};
 ghost use Rattle.csv_read.specs.Body.{HoldsBody, IsBodyFault};
 ghost use Rattle.csv_read.specs.BodyRows.{HasRows, ReadsBatch, RefusesBatch};
 ghost use Rattle.field_codec.specs.TextColumns.{AreAllowed, AreProper};

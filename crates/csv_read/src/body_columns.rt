@@ -5,9 +5,9 @@ ghost use Rattle.col_build.specs.Encoding.{HasForm, most_values};
 ghost use Rattle.col_build.specs.Holding.{Holds, HoldsSome};
 ghost use Rattle.col_build.specs.declared.builder.Builder.{Builder};
 ghost use Rattle.data_types.specs.ColumnView.{column_of};
-ghost use Rattle.data_types.specs.FieldText.{form_of};
+ghost use Rattle.data_types.specs.promise.FieldText.{form_of};
 ghost use Rattle.data_types.specs.Kinds.{KindOk};
-ghost use Rattle.data_types.specs.Table.{Flat};
+ghost use Rattle.data_types.specs.promise.Table.{Flat};
 ghost use Rattle.csv_read.specs.ColumnForms.{AreBegun, AreForms, AreReady, is_text_form};
 ghost use Rattle.csv_read.specs.Emptied.{AreEmptied};
 ghost use Rattle.field_codec.specs.TextColumns.{AreAllowed, AreProper, IsAllowed, IsFlatOf};
@@ -128,9 +128,9 @@ fn note_used(used: &mut [(usize, usize)], builders: &[Builder])
 impl BodyColumns {
     ghost use Rattle.std.specs.Prelude.{◌≤◌, ◌+◌, ◌*◌, ◌^◌, List, pos, true, IfErr, OnErr, OnOk};
     ghost use Rattle.csv.specs.Records.{fields_of};
-    ghost use Rattle.data_types.specs.Table.{Column, Row};
-    ghost use Rattle.raw_array.specs.Members.{Cost};
-    ghost use Rattle.unit_pass.specs.Tally.{risen};
+    ghost use Rattle.data_types.specs.promise.Table.{Column, Row};
+    ghost use Rattle.raw_array.specs.promise.Members.{Cost};
+    ghost use Rattle.unit_pass.specs.promise.Tally.{risen};
     ghost use Rattle.csv_read.specs.Body.{HoldRows};
     ghost use Rattle.csv_read.specs.Chunks.{chunk_blocks, chunk_of};
     ghost use Rattle.csv_read.specs.Emptied.{AreSpent};

@@ -1,16 +1,17 @@
 //! The chunk of the rows that builders hold.
 ghost use Rattle.std.specs.Prelude.{◌≡◌, ◌+◌, ◌-◌, ◌*◌, ◌<◌, ◌≤◌, ◌^◌, ◌++◌, ◌∷◌, [], List, None, pos, length, All, IfOk, OnOk, OnErr};
-ghost use Rattle.data_types.specs.Table.{Column, Row};
-ghost use Rattle.tree_model.specs.Tree.{trees};
-ghost use Rattle.unit_pass.specs.Tally.{risen};
-ghost use Rattle.raw_array.specs.Members.{Cost, cost_of_all};
+ghost use Rattle.data_types.specs.promise.Table.{Column, Row};
+ghost use Rattle.tree_model.specs.promise.TreeData.{trees};
+ghost use Rattle.unit_pass.specs.promise.Tally.{risen};
+ghost use Rattle.raw_array.specs.promise.Members.{Cost};
+ghost use Rattle.raw_array.specs.Members.{cost_of_all};
 ghost use Rattle.col_build.specs.Encoding.{most_values};
 ghost use Rattle.col_build.specs.Holding.{HoldsSome};
 ghost use Rattle.col_build.specs.declared.builder.Builder.{Builder as ABuilder};
-ghost use Rattle.layout_rules.specs.Rules.{window_limit};
-ghost use Rattle.layout_rules.specs.Values.{rows_of};
-ghost use Rattle.layout_rules.specs.Walk.{ChunkOk};
-ghost use Rattle.data_types.specs.ColumnKinds.{type_of_columns};
+ghost use Rattle.layout_rules.specs.promise.Rules.{window_limit};
+ghost use Rattle.layout_rules.specs.promise.Values.{rows_of};
+ghost use Rattle.layout_rules.specs.promise.Walk.{ChunkOk};
+ghost use Rattle.data_types.specs.promise.ColumnKinds.{type_of_columns};
 ghost use Rattle.csv_read.specs.Body.{HoldRows};
 ghost use Rattle.csv_read.specs.Emptied.{AreEmptied, AreSpent, IsEmptied, IsSpent};
 ghost use Rattle.csv_read.specs.Chunks.{AreColumnsOf, FitFrom, IsColumnOf, all_blocks, chunk_blocks, chunk_of, own_blocks};

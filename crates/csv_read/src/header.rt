@@ -3,9 +3,9 @@ ghost use Rattle.std.specs.Prelude.{◌≡◌, ◌≢◌, ◌≤◌, vec_len, Al
 ghost use Rattle.csv.specs.Records.{fields_of};
 ghost use Rattle.data_types.specs.ColumnView.{column_of};
 ghost use Rattle.data_types.specs.Kinds.{KindOk};
-ghost use Rattle.csv_model.specs.Header.{header_of, most_columns};
-ghost use Rattle.csv_model.specs.Reading.{behind_header};
-ghost use Rattle.stage_plan.specs.Entries.{entries_of};
+ghost use Rattle.csv_model.specs.promise.Header.{header_of, most_columns};
+ghost use Rattle.csv_model.specs.promise.Reading.{behind_header};
+ghost use Rattle.stage_plan.specs.promise.Entries.{entries_of};
 ghost use Rattle.field_codec.specs.TextColumns.{AreAllowed, AreProper, IsAllowed, NamesDiffer};
 
 use crate::columns::columns;

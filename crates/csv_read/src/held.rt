@@ -1,11 +1,11 @@
 //! The rows of a batch, taken out of their reader.
 ghost use Rattle.std.specs.Prelude.{◌≡◌, ◌≤◌, ◌<◌, ◌+◌, ◌*◌, ◌^◌, length, map, IfOk, OnErr, OnOk};
 ghost use Rattle.data_types.specs.ColumnView.{column_of};
-ghost use Rattle.data_types.specs.ColumnKinds.{type_of_columns};
-ghost use Rattle.layout_rules.specs.Values.{rows_of};
-ghost use Rattle.layout_rules.specs.Walk.{ChunkOk};
-ghost use Rattle.raw_array.specs.Members.{Cost};
-ghost use Rattle.unit_pass.specs.Tally.{risen};
+ghost use Rattle.data_types.specs.promise.ColumnKinds.{type_of_columns};
+ghost use Rattle.layout_rules.specs.promise.Values.{rows_of};
+ghost use Rattle.layout_rules.specs.promise.Walk.{ChunkOk};
+ghost use Rattle.raw_array.specs.promise.Members.{Cost};
+ghost use Rattle.unit_pass.specs.promise.Tally.{risen};
 ghost use Rattle.csv_read.specs.BatchesLeft.{columns_in, next_rows};
 ghost use Rattle.csv_read.specs.Body.{HoldRows};
 ghost use Rattle.csv_read.specs.Chunks.{chunk_blocks, chunk_of};

@@ -1,8 +1,8 @@
 //! The names of columns: that they are text, that none is there twice, and that entries know them.
 ghost use Rattle.std.specs.Prelude.{◌≡◌, ◌≢◌, ◌≤◌, ◌<◌, ℕ, List, length, IfErr, OnOk, IfSome, None, Some};
-ghost use Rattle.csv_model.specs.Header.{first_not_text, first_unknown, names_fault, is_among, most_columns};
+ghost use Rattle.csv_model.specs.promise.Header.{first_not_text, first_unknown, names_fault, is_among, most_columns};
 ghost use Rattle.stage_plan.specs.PlanWords.{has_text, texts};
-ghost use Rattle.stage_plan.specs.Entries.{entries_of};
+ghost use Rattle.stage_plan.specs.promise.Entries.{entries_of};
 
 use col_build::is_text;
 use csv_model::HeaderFault;

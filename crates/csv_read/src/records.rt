@@ -3,7 +3,7 @@ ghost use Rattle.std.specs.Prelude.{◌≡◌, ◌≢◌, ◌≤◌, ◌∷◌, 
 ghost use Rattle.csv.specs.Reading.{error_kind, stops_reader};
 ghost use Rattle.std.specs.Str.{is_utf8};
 ghost use Rattle.csv.specs.Records.{fields_of};
-ghost use Rattle.csv_model.specs.Reading.{behind_header, records_of};
+ghost use Rattle.csv_model.specs.promise.Reading.{behind_header, records_of};
 ghost use Rattle.csv_read.specs.RecordReader.{IsReading, Takes, field_bytes, records_left, text_left, told_by};
 ghost use Rattle.csv_read.specs.Texts.{AreTexts};
 

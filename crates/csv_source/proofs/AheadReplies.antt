@@ -5,19 +5,20 @@ use Rattle.ahead_ring.specs.Coming.{Coming}
 use Rattle.csv_source.proofs.PlainKinds.{IsPlain}
 use Rattle.csv_source.specs.SourceStreams.{AreShort, chunks_traffic, stream_of}
 use Rattle.csv_source.specs.declared.refused.Refused.{Refused}
-use Rattle.csv_model.specs.Batches.{Chunks}
-use Rattle.csv_model.specs.Reading.{Record}
+use Rattle.csv_model.specs.promise.Batches.{Chunks}
+use Rattle.csv_model.specs.promise.Reading.{Record}
 use Rattle.csv_read.specs.BatchesLeft.{BatchesLeft, all_left, batches_left}
 use Rattle.csv_read.specs.RecordReader.{field_bytes}
 use Rattle.data_types.specs.ColumnView.{column_of}
-use Rattle.data_types.specs.Table.{Column, Row}
+use Rattle.data_types.specs.promise.Table.{Column, Row}
 use Rattle.data_types.specs.declared.kind.ColumnType.{ColumnType}
 use Rattle.data_types.specs.declared.row_fault.RowFault.{RowFault}
-use Rattle.raw_array.specs.Members.{ArrayTree}
+use Rattle.raw_array.specs.promise.Members.{ArrayTree}
 use Rattle.stream_face.proofs.Producers.{live-or-released}
 use Rattle.stream_face.specs.Calls.{Counts}
 use Rattle.stream_face.specs.Lawful.{LawfulTables}
-use Rattle.tree_model.specs.Tree.{IsLive, Released}
+use Rattle.tree_model.specs.promise.TreeParts.{IsLive}
+use Rattle.tree_model.specs.promise.TreeData.{Released}
 use Rattle.unit_pass.specs.Tally.{Tally}
 use Rattle.csv_source.proofs.LastPieces.{last-lawful, tables-back, taken}
 use Rattle.csv_source.proofs.NextTables.{next-table, none-counts, table-counts}

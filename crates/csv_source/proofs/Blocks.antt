@@ -6,17 +6,18 @@ use Rattle.std.proofs.lemmas.List.{length-replicate}
 use Rattle.std.proofs.lemmas.List.Elements.{recursion_from_All}
 use Rattle.std.specs.Prelude.{◌⊎◌, ◌==◌, ◌/◌, not}
 use Rattle.std.specs.List.{AllByRecursion, concat, flat_map, list_any}
-use Rattle.data_types.specs.Packed.{le_bytes, stored}
-use Rattle.col_build.specs.Encoding.{bit_bytes, buffers_if, if_some, is_set, is_wide, null_total, stored_item, validity_of}
-use Rattle.col_build.specs.Finished.{blocks_of, present_count}
+use Rattle.data_types.specs.promise.Packed.{le_bytes, stored}
+use Rattle.col_build.specs.promise.Encoding.{bit_bytes, buffers_if, if_some, is_set, is_wide, null_total, stored_item, validity_of}
+use Rattle.col_build.specs.promise.Finished.{blocks_of, present_count}
 use Rattle.csv_read.specs.Body.{column_values}
 use Rattle.csv_read.specs.Chunks.{blocks_from, chunk_blocks, column_blocks}
-use Rattle.data_types.specs.FieldText.{Form, Truths, Wholes, FloatBits, Text, HexBytes, SizedHex, Decimals, IsFlatKind, IsOfSome, IsSomeFlat, IsValueOf}
-use Rattle.data_types.specs.FieldText.{form_of}
-use Rattle.data_types.specs.Table.{Column, Kind, Flat, Row}
-use Rattle.data_types.specs.Value.{Value, Null, Truth, Whole, Bits, Bytes, Items, Fields, bytes_of, is_null}
+use Rattle.data_types.specs.promise.FieldText.{Form, Truths, Wholes, FloatBits, Text, HexBytes, SizedHex, Decimals}
+use Rattle.data_types.specs.FieldText.{IsFlatKind, IsOfSome, IsSomeFlat, IsValueOf}
+use Rattle.data_types.specs.promise.FieldText.{form_of}
+use Rattle.data_types.specs.promise.Table.{Column, Kind, Flat, Row}
+use Rattle.data_types.specs.promise.Value.{Value, Null, Truth, Whole, Bits, Bytes, Items, Fields, bytes_of, is_null}
 use Rattle.data_types.specs.declared.kind.DataType.{DataType}
-use Rattle.stage_model.specs.Traffic.{Made, blocks_from as made_from, flat_blocks, form_blocks, kind_blocks, made_blocks, one_if_any, validity_blocks}
+use Rattle.stage_model.specs.promise.Traffic.{Made, blocks_from as made_from, flat_blocks, form_blocks, kind_blocks, made_blocks, one_if_any, validity_blocks}
 use Rattle.stream_face.specs.Lawful.{AreItems, AreValues, IsTable}
 use Rattle.csv_source.proofs.PlainKinds.{IsPlain}
 

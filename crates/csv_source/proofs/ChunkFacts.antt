@@ -3,14 +3,14 @@ use Rattle.std.proofs.Common.{◌≡◌, ◌≤◌, ◌+◌, ◌*◌, ◌∙◌,
 use Rattle.std.proofs.lemmas.List.Sums.{sum_by-cons}
 use Rattle.std.specs.List.{sum_by}
 use Rattle.csv_read.specs.Chunks.{chunk_of}
-use Rattle.data_types.specs.Table.{Column, Row}
-use Rattle.data_types.specs.ColumnKinds.{type_of_columns}
-use Rattle.layout_rules.specs.Values.{rows_of}
-use Rattle.layout_rules.specs.Walk.{ChunkOk}
-use Rattle.raw_array.specs.Members.{ArrayTree, Cost}
-use Rattle.stage_model.specs.Traffic.{Made, kind_nodes, made_nodes}
+use Rattle.data_types.specs.promise.Table.{Column, Row}
+use Rattle.data_types.specs.promise.ColumnKinds.{type_of_columns}
+use Rattle.layout_rules.specs.promise.Values.{rows_of}
+use Rattle.layout_rules.specs.promise.Walk.{ChunkOk}
+use Rattle.raw_array.specs.promise.Members.{ArrayTree, Cost}
+use Rattle.stage_model.specs.promise.Traffic.{Made, kind_nodes, made_nodes}
 use Rattle.stream_face.specs.Lawful.{DictsAreFull, IsChunkOf}
-use Rattle.tree_model.specs.Tree.{IsLive, child_at}
+use Rattle.tree_model.specs.promise.TreeParts.{IsLive, child_at}
 use Rattle.csv_source.proofs.PlainKinds.{IsPlain}
 
 columns-nodes : (columns : List Column) → All IsPlain columns → sum_by (λ c. kind_nodes Made c.kind) columns ≡ length columns

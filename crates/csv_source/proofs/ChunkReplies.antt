@@ -1,11 +1,11 @@
 -- What a call that refuses answers.
 use Rattle.std.proofs.Common.{◌≡◌, ℤ, [], Option, None, Some, refl}
 use Rattle.data_types.specs.declared.row_fault.RowFault.{RowFault}
-use Rattle.raw_array.specs.Members.{ArrayTree}
+use Rattle.raw_array.specs.promise.Members.{ArrayTree}
 use Rattle.stream_face.specs.Calls.{Answers}
 use Rattle.stream_face.specs.Streams.{Stream}
 use Rattle.stream_face.specs.Texts.{Refusal}
-use Rattle.tree_model.specs.Tree.{Released}
+use Rattle.tree_model.specs.promise.TreeData.{Released}
 use Rattle.csv_source.specs.Refusals.{refusal_in, refusal_of, row_of}
 use Rattle.csv_source.specs.declared.refused.Refused.{Refused}
 use Rattle.csv_source.specs.declared.refused.Refused.TheVariants as refused

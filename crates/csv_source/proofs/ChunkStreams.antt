@@ -2,14 +2,15 @@
 use Rattle.std.proofs.Common.{◌≡◌, ◌≢◌, ◌<◌, ◌^◌, ℤ, List, [], ◌∷◌, None, Some, refl, sym, ap, subst}
 use Rattle.std.proofs.lemmas.List.Sums.{sum_by-cons}
 use Rattle.std.specs.List.{sum_by}
-use Rattle.data_types.specs.Table.{Column, Row}
-use Rattle.raw_array.specs.Members.{ArrayTree}
-use Rattle.stage_model.specs.Traffic.{made_blocks, made_nodes}
+use Rattle.data_types.specs.promise.Table.{Column, Row}
+use Rattle.raw_array.specs.promise.Members.{ArrayTree}
+use Rattle.stage_model.specs.promise.Traffic.{made_blocks, made_nodes}
 use Rattle.stream_face.specs.Calls.{Counts}
 use Rattle.stream_face.specs.Codes.{enomem}
 use Rattle.stream_face.proofs.Producers.{counts-nothing, not-released}
-use Rattle.tree_model.specs.Tree.{IsLive}
-use Rattle.unit_pass.specs.Tally.{Tally, risen}
+use Rattle.tree_model.specs.promise.TreeParts.{IsLive}
+use Rattle.unit_pass.specs.promise.Tally.{risen}
+use Rattle.unit_pass.specs.Tally.{Tally}
 use Rattle.csv_source.specs.NextChunks.{CountsNothing}
 use Rattle.csv_source.specs.Refusals.{refusal_of, row_of}
 use Rattle.csv_source.specs.SourceStreams.{chunks_traffic}

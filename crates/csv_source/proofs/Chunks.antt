@@ -2,22 +2,23 @@
 use Rattle.std.proofs.Common.{◌≡◌, ◌≤◌, ◌+◌, ◌*◌, ◌∙◌, ℕ, zero, suc, List, [], ◌∷◌, length, drop, All, Option, None, Some, sym, ap, subst, arith}
 use Rattle.std.proofs.lemmas.List.{length-map}
 use Rattle.col_build.specs.declared.builder.Builder.{Builder}
-use Rattle.csv_model.specs.Batches.{Chunks}
-use Rattle.csv_model.specs.Reading.{Record}
+use Rattle.csv_model.specs.promise.Batches.{Chunks}
+use Rattle.csv_model.specs.promise.Reading.{Record}
 use Rattle.csv_read.specs.BatchesLeft.{BatchesLeft, IsNextBatch, IsNextFault, at_end, batches_left, behind, columns_in}
 use Rattle.csv_read.specs.Chunks.{chunk_blocks, chunk_of}
 use Rattle.csv_read.specs.RecordReader.{field_bytes}
 use Rattle.csv_read.specs.declared.body.BodyFault.{BodyFault}
 use Rattle.csv_read.specs.declared.body.BodyFault.TheVariants as faults
 use Rattle.data_types.specs.ColumnView.{column_of}
-use Rattle.data_types.specs.Table.{Row}
+use Rattle.data_types.specs.promise.Table.{Row}
 use Rattle.data_types.specs.declared.row_fault.RowFault.{RowFault}
-use Rattle.data_types.specs.ColumnKinds.{type_of_columns}
-use Rattle.layout_rules.specs.Values.{rows_of}
-use Rattle.layout_rules.specs.Walk.{ChunkOk}
-use Rattle.raw_array.specs.Members.{ArrayTree, Cost}
+use Rattle.data_types.specs.promise.ColumnKinds.{type_of_columns}
+use Rattle.layout_rules.specs.promise.Values.{rows_of}
+use Rattle.layout_rules.specs.promise.Walk.{ChunkOk}
+use Rattle.raw_array.specs.promise.Members.{ArrayTree, Cost}
 use Rattle.stream_face.specs.Lawful.{IsTable}
-use Rattle.unit_pass.specs.Tally.{Tally, risen}
+use Rattle.unit_pass.specs.promise.Tally.{risen}
+use Rattle.unit_pass.specs.Tally.{Tally}
 use Rattle.csv_source.specs.SourceStreams.{AreShort, no_batches}
 use Rattle.csv_source.specs.NextChunks.{EndsAt, IsNextChunk}
 use Rattle.csv_source.specs.Refusals.{TellsOf}

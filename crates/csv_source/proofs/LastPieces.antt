@@ -1,8 +1,8 @@
 -- What is to come are the last pieces of a maker: the tables of the batches that are left, and behind them the record at fault.
 use Rattle.std.proofs.Common.{◌≡◌, ◌+◌, ◌-◌, ◌∙◌, ℕ, zero, suc, List, [], ◌∷◌, length, drop, Option, None, Some, refl, sym, ap, subst, arith}
-use Rattle.csv_model.specs.Batches.{Chunks}
+use Rattle.csv_model.specs.promise.Batches.{Chunks}
 use Rattle.csv_read.specs.StoredRows.{HeldTable}
-use Rattle.data_types.specs.Table.{Column, Row}
+use Rattle.data_types.specs.promise.Table.{Column, Row}
 use Rattle.data_types.specs.declared.kind.ColumnType.{ColumnType}
 use Rattle.data_types.specs.declared.row_fault.RowFault.{RowFault}
 use Rattle.stream_face.specs.Lawful.{LawfulTables}

@@ -9,17 +9,18 @@ use Rattle.csv_source.proofs.Tables.{left-lawful}
 use Rattle.csv_source.specs.SourceStreams.{AreShort, chunks_traffic}
 use Rattle.csv_read.specs.Chunks.{chunk_blocks, chunk_of}
 use Rattle.data_types.specs.ColumnView.{column_of}
-use Rattle.data_types.specs.Table.{Column, Row}
+use Rattle.data_types.specs.promise.Table.{Column, Row}
 use Rattle.data_types.specs.declared.kind.ColumnType.{ColumnType}
-use Rattle.data_types.specs.ColumnKinds.{type_of_columns}
-use Rattle.layout_rules.specs.Values.{rows_of}
-use Rattle.layout_rules.specs.Walk.{ChunkOk}
-use Rattle.raw_array.specs.Members.{ArrayTree, Cost}
-use Rattle.stage_model.specs.Traffic.{made_blocks, made_nodes}
+use Rattle.data_types.specs.promise.ColumnKinds.{type_of_columns}
+use Rattle.layout_rules.specs.promise.Values.{rows_of}
+use Rattle.layout_rules.specs.promise.Walk.{ChunkOk}
+use Rattle.raw_array.specs.promise.Members.{ArrayTree, Cost}
+use Rattle.stage_model.specs.promise.Traffic.{made_blocks, made_nodes}
 use Rattle.stream_face.specs.Calls.{Counts}
 use Rattle.stream_face.specs.Lawful.{IsChunkOf, IsTable, LawfulTables}
-use Rattle.tree_model.specs.Tree.{IsLive}
-use Rattle.unit_pass.specs.Tally.{Tally, risen}
+use Rattle.tree_model.specs.promise.TreeParts.{IsLive}
+use Rattle.unit_pass.specs.promise.Tally.{risen}
+use Rattle.unit_pass.specs.Tally.{Tally}
 use Rattle.csv_source.proofs.LastPieces.{last-lawful, taken}
 use Rattle.csv_source.specs.NextPieces.{AreLast, IsPieceChunk}
 use Rattle.csv_source.specs.Pieces.{maker_batches, tables_of}

@@ -1,8 +1,8 @@
 -- What is to come of a text behind a piece of it.
 use Rattle.std.proofs.Common.{◌≡◌, List, [], ◌∷◌, None, Some, ap}
-use Rattle.csv_model.specs.Batches.{Chunks}
+use Rattle.csv_model.specs.promise.Batches.{Chunks}
 use Rattle.csv_read.specs.BatchesLeft.{behind}
-use Rattle.data_types.specs.Table.{Row}
+use Rattle.data_types.specs.promise.Table.{Row}
 use Rattle.data_types.specs.declared.kind.ColumnType.{ColumnType}
 use Rattle.data_types.specs.declared.row_fault.RowFault.{RowFault}
 use Rattle.csv_source.specs.Pieces.{pieces_of, rows_piece}

@@ -5,9 +5,11 @@ use Rattle.std.proofs.lemmas.List.{get_or-map, length-map}
 use Rattle.std.specs.Prelude.{is_some}
 use Rattle.data_types.specs.ColumnForms.{AreColumnKinds, HasForm, IsColumnKind}
 use Rattle.data_types.specs.ColumnView.{column_of}
-use Rattle.data_types.specs.FieldText.{Decimals, FloatBits, Form, IsFlatKind, IsSomeFlat, Wholes, form_of}
-use Rattle.data_types.specs.Kinds.{KindOk, is_column_type}
-use Rattle.data_types.specs.Table.{Column, Kind, Flat}
+use Rattle.data_types.specs.promise.FieldText.{Decimals, FloatBits, Form, Wholes, form_of}
+use Rattle.data_types.specs.FieldText.{IsFlatKind, IsSomeFlat}
+use Rattle.data_types.specs.promise.Kinds.{is_column_type}
+use Rattle.data_types.specs.Kinds.{KindOk}
+use Rattle.data_types.specs.promise.Table.{Column, Kind, Flat}
 use Rattle.data_types.specs.declared.kind.ColumnType.{ColumnType}
 use Rattle.data_types.specs.declared.kind.DataType.{DataType}
 use Rattle.data_types.specs.declared.kind.DataType.TheVariants as kinds

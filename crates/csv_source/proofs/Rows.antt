@@ -4,14 +4,15 @@ use Rattle.std.proofs.Common.{Result, Ok, Err, refl, sym, ap, subst, arith, inl,
 use Rattle.std.proofs.lemmas.Bool.{cases_Bool, eqb-true}
 use Rattle.std.specs.Prelude.{◌==◌}
 use Rattle.std.specs.List.{AllByRecursion, concat}
-use Rattle.data_types.specs.FieldText.{Form, IsFlatForm, IsSomeFlat, IsValueOf, form_of, read_field}
-use Rattle.data_types.specs.Table.{Column, Kind, Flat, Row}
-use Rattle.data_types.specs.Value.{Value, Null, bytes_of}
+use Rattle.data_types.specs.promise.FieldText.{Form, form_of, read_field}
+use Rattle.data_types.specs.FieldText.{IsFlatForm, IsSomeFlat, IsValueOf}
+use Rattle.data_types.specs.promise.Table.{Column, Kind, Flat, Row}
+use Rattle.data_types.specs.promise.Value.{Value, Null, bytes_of}
 use Rattle.data_types.specs.declared.row_fault.RowFault.{RowFault}
 use Rattle.data_types.specs.declared.row_fault.RowFault.TheVariants as row
 use Rattle.data_types.proofs.FieldValues.{read_is_value}
-use Rattle.csv_model.specs.Batches.{row_before, rows_before}
-use Rattle.csv_model.specs.Reading.{Record, body_from, field_in, row_of, values_from, values_step, with_row, with_value}
+use Rattle.csv_model.specs.promise.Batches.{row_before, rows_before}
+use Rattle.csv_model.specs.promise.Reading.{Record, body_from, field_in, row_of, values_from, values_step, with_row, with_value}
 use Rattle.csv_read.specs.RecordReader.{field_bytes}
 use Rattle.csv_read.proofs.Taken.{field-taken}
 use Rattle.csv_source.proofs.PlainKinds.{IsPlain}

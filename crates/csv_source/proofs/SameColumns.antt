@@ -4,7 +4,7 @@ use Rattle.std.proofs.lemmas.List.{get_or-map, length-map}
 use Rattle.csv_source.proofs.PlainKinds.{IsPlain}
 use Rattle.data_types.specs.ColumnForms.{KindsOk}
 use Rattle.data_types.specs.ColumnView.{column_of, kind_of, members_of}
-use Rattle.data_types.specs.Table.{Column, Kind, Flat, Dict, Columns}
+use Rattle.data_types.specs.promise.Table.{Column, Kind, Flat, Dict, Columns}
 use Rattle.data_types.specs.declared.kind.ColKind.{ColKind, Flat as CodeFlat, Dict as CodeDict, Columns'}
 use Rattle.data_types.specs.declared.kind.ColumnType.{ColumnType}
 use Rattle.data_types.specs.declared.kind.DataType.{DataType}

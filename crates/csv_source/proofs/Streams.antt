@@ -2,14 +2,14 @@
 use Rattle.std.proofs.Common.{◌≡◌, ◌<◌, ◌^◌, ℕ, List, ◌∷◌, map, None, sym, ap, subst}
 use Rattle.csv_source.proofs.ChunkStreams.{end-counts, made-counts}
 use Rattle.csv_source.specs.SourceStreams.{chunks_traffic, no_batches}
-use Rattle.csv_model.specs.Batches.{Chunks}
+use Rattle.csv_model.specs.promise.Batches.{Chunks}
 use Rattle.csv_read.specs.BatchesLeft.{BatchesLeft, batches_left, columns_in}
 use Rattle.data_types.specs.ColumnView.{column_of}
-use Rattle.data_types.specs.Table.{Row}
+use Rattle.data_types.specs.promise.Table.{Row}
 use Rattle.data_types.specs.declared.kind.ColumnType.{ColumnType}
-use Rattle.raw_array.specs.Members.{ArrayTree}
+use Rattle.raw_array.specs.promise.Members.{ArrayTree}
 use Rattle.stream_face.specs.Calls.{Counts}
-use Rattle.tree_model.specs.Tree.{IsLive}
+use Rattle.tree_model.specs.promise.TreeParts.{IsLive}
 use Rattle.unit_pass.specs.Tally.{Tally}
 use Rattle.csv_source.specs.NextChunks.{IsNextChunk}
 

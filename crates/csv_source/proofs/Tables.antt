@@ -5,12 +5,12 @@ use Rattle.std.proofs.lemmas.Bool.{cases_Bool}
 use Rattle.std.proofs.lemmas.List.Elements.{All-from_recursion}
 use Rattle.std.specs.List.{AllByRecursion, concat, filter}
 use Rattle.data_types.specs.FieldText.{IsValueOf}
-use Rattle.data_types.specs.Parts.{column_values, joined_rows}
-use Rattle.data_types.specs.Table.{Column, Kind, Row}
-use Rattle.data_types.specs.Value.{Null, byte_total, bytes_of}
+use Rattle.data_types.specs.promise.Parts.{column_values, joined_rows}
+use Rattle.data_types.specs.promise.Table.{Column, Kind, Row}
+use Rattle.data_types.specs.promise.Value.{Null, byte_total, bytes_of}
 use Rattle.data_types.specs.declared.row_fault.RowFault.{RowFault}
-use Rattle.csv_model.specs.Batches.{batches_if, cut, rows_before}
-use Rattle.csv_model.specs.Reading.{body_from}
+use Rattle.csv_model.specs.promise.Batches.{batches_if, cut, rows_before}
+use Rattle.csv_model.specs.promise.Reading.{body_from}
 use Rattle.csv_read.specs.BatchesLeft.{BatchesLeft, batches_left, columns_in}
 use Rattle.csv_source.specs.SourceStreams.{AreShort}
 use Rattle.stage_model.proofs.BatchRows.{cut-rows}

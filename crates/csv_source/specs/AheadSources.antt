@@ -5,7 +5,7 @@ use Rattle.csv_source.specs.Refusals.{refusal_in, row_in, said_by}
 use Rattle.csv_source.specs.SourceStreams.{chunks_traffic, no_joints}
 use Rattle.csv_source.specs.declared.refused.Refused.{Refused}
 use Rattle.data_types.specs.ColumnView.{column_of}
-use Rattle.data_types.specs.Table.{Row}
+use Rattle.data_types.specs.promise.Table.{Row}
 use Rattle.stream_face.specs.Streams.{Stream}
 use Rattle.csv_source.specs.NextPieces.{to_come}
 use Rattle.csv_source.specs.Pieces.{maker_batches, tables_of}

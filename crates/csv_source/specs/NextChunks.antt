@@ -4,13 +4,14 @@ use Rattle.csv_source.specs.Refusals.{row_of}
 use Rattle.csv_source.specs.SourceStreams.{no_batches}
 use Rattle.csv_source.specs.declared.refused.Refused.{Refused}
 use Rattle.csv_read.specs.BatchesLeft.{BatchesLeft, batches_left, behind, columns_in}
-use Rattle.data_types.specs.Table.{Row}
+use Rattle.data_types.specs.promise.Table.{Row}
 use Rattle.data_types.specs.declared.row_fault.RowFault.{RowFault}
-use Rattle.raw_array.specs.Members.{ArrayTree}
-use Rattle.stage_model.specs.Traffic.{made_blocks, made_nodes}
+use Rattle.raw_array.specs.promise.Members.{ArrayTree}
+use Rattle.stage_model.specs.promise.Traffic.{made_blocks, made_nodes}
 use Rattle.stream_face.specs.Lawful.{IsChunkOf}
-use Rattle.tree_model.specs.Tree.{IsLive}
-use Rattle.unit_pass.specs.Tally.{Tally, risen}
+use Rattle.tree_model.specs.promise.TreeParts.{IsLive}
+use Rattle.unit_pass.specs.promise.Tally.{risen}
+use Rattle.unit_pass.specs.Tally.{Tally}
 
 -- the record at which the batches end, where one is at fault
 abbrev pub ending_of : ℕ → BatchesLeft → Option RowFault

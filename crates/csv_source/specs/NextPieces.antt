@@ -3,16 +3,17 @@ use Rattle.std.specs.Prelude.{◌≡◌, ◌≤◌, ◌+◌, ◌-◌, ◌*◌, �
 use Rattle.ahead_ring.specs.Coming.{Coming}
 use Rattle.csv_source.specs.Refusals.{row_of}
 use Rattle.csv_source.specs.declared.refused.Refused.{Refused}
-use Rattle.csv_model.specs.Batches.{Chunks}
+use Rattle.csv_model.specs.promise.Batches.{Chunks}
 use Rattle.csv_read.specs.Chunks.{chunk_blocks, chunk_of}
 use Rattle.csv_read.specs.StoredRows.{HeldTable}
 use Rattle.data_types.specs.ColumnView.{column_of}
 use Rattle.data_types.specs.declared.row_fault.RowFault.{RowFault}
-use Rattle.data_types.specs.ColumnKinds.{type_of_columns}
-use Rattle.layout_rules.specs.Values.{rows_of}
-use Rattle.layout_rules.specs.Walk.{ChunkOk}
-use Rattle.raw_array.specs.Members.{ArrayTree, Cost}
-use Rattle.unit_pass.specs.Tally.{Tally, risen}
+use Rattle.data_types.specs.promise.ColumnKinds.{type_of_columns}
+use Rattle.layout_rules.specs.promise.Values.{rows_of}
+use Rattle.layout_rules.specs.promise.Walk.{ChunkOk}
+use Rattle.raw_array.specs.promise.Members.{ArrayTree, Cost}
+use Rattle.unit_pass.specs.promise.Tally.{risen}
+use Rattle.unit_pass.specs.Tally.{Tally}
 use Rattle.csv_source.specs.Pieces.{maker_batches, pieces_of, tables_of}
 use Rattle.csv_source.specs.declared.maker.CsvMaker.{CsvMaker}
 use Rattle.csv_source.specs.declared.maker.Piece.{Piece}

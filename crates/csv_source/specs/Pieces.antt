@@ -1,8 +1,8 @@
 -- A text as pieces: its batches, and the record at which they end.
 use Rattle.std.specs.Prelude.{List, [], ◌∷◌, ◌++◌, map, Option, None, Some}
-use Rattle.csv_model.specs.Batches.{Chunks}
+use Rattle.csv_model.specs.promise.Batches.{Chunks}
 use Rattle.csv_read.specs.BatchesLeft.{batches_left}
-use Rattle.data_types.specs.Table.{Row}
+use Rattle.data_types.specs.promise.Table.{Row}
 use Rattle.data_types.specs.declared.kind.ColumnType.{ColumnType}
 use Rattle.data_types.specs.declared.row_fault.RowFault.{RowFault}
 use Rattle.csv_source.specs.declared.maker.CsvMaker.{CsvMaker}

@@ -1,13 +1,13 @@
 -- What a stream over the records of a text means at its start.
 use Rattle.std.specs.Prelude.{◌≤◌, ◌^◌, ℕ, true, List, [], length, Option, None}
 use Rattle.std.specs.List.{sum_by}
-use Rattle.csv_model.specs.Batches.{Chunks}
-use Rattle.csv_model.specs.Reading.{Record}
+use Rattle.csv_model.specs.promise.Batches.{Chunks}
+use Rattle.csv_model.specs.promise.Reading.{Record}
 use Rattle.csv_read.specs.RecordReader.{field_bytes}
-use Rattle.data_types.specs.Table.{Column, Row}
+use Rattle.data_types.specs.promise.Table.{Column, Row}
 use Rattle.data_types.specs.declared.row_fault.RowFault.{RowFault}
-use Rattle.stage_model.specs.Traffic.{made_blocks, made_nodes}
-use Rattle.stream_face.specs.Shown.{Shown}
+use Rattle.stage_model.specs.promise.Traffic.{made_blocks, made_nodes}
+use Rattle.stream_face.specs.promise.Shown.{Shown}
 use Rattle.stream_face.specs.Streams.{Stream, Traffic}
 
 -- records of a text of at most 2^30 bytes

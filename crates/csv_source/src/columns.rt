@@ -1,6 +1,6 @@
 //! The columns of a text.
 ghost use Rattle.std.specs.Prelude.{◌≡◌, ◌≤◌, map, vec_len, length};
-ghost use Rattle.csv_model.specs.Header.{most_columns};
+ghost use Rattle.csv_model.specs.promise.Header.{most_columns};
 ghost use Rattle.data_types.specs.ColumnView.{column_of};
 ghost use Rattle.field_codec.specs.TextColumns.{AreAllowed, AreProper};
 
@@ -16,7 +16,7 @@ pub(crate) struct TextColumns {
 impl Model for TextColumns {
     ghost use Rattle.std.specs.Prelude.{◌≤◌, List, length, map};
     ghost use Rattle.std.specs.Coded.{codes};
-    ghost use Rattle.csv_model.specs.Header.{most_columns};
+    ghost use Rattle.csv_model.specs.promise.Header.{most_columns};
     ghost use Rattle.data_types.specs.ColumnView.{column_of};
     ghost use Rattle.data_types.specs.contracts.kind.ColumnType as kinds;
     ghost use Rattle.data_types.specs.declared.kind.ColumnType.{ColumnType as AColumn};

@@ -1,6 +1,6 @@
 //! The maker that reads the batches of a text, one by one, as pieces.
 ghost use Rattle.std.specs.Prelude.{◌≡◌, ◌≤◌, ◌^◌, map, length, vec_len, IfOk};
-ghost use Rattle.csv_model.specs.Batches.{batches_in};
+ghost use Rattle.csv_model.specs.promise.Batches.{batches_in};
 ghost use Rattle.field_codec.specs.TextColumns.{AreAllowed, AreProper};
 ghost use Rattle.data_types.specs.ColumnView.{column_of};
 

@@ -1,11 +1,12 @@
 //! The chunk of the next piece of a text.
 ghost use Rattle.std.specs.Prelude.{◌≡◌, ◌≤◌, ◌+◌, [], is_some, true, length, IfErr, OnErr, OnOk};
-ghost use Rattle.csv_model.specs.Header.{most_columns};
+ghost use Rattle.csv_model.specs.promise.Header.{most_columns};
 ghost use Rattle.csv_source.specs.NextChunks.{CountsNothing};
 ghost use Rattle.csv_source.specs.NextPieces.{AreLast, IsPieceChunk, StopsAt, to_come};
 ghost use Rattle.csv_source.specs.declared.maker.CsvMaker.{CsvMaker as AMaker};
-ghost use Rattle.raw_array.specs.Members.{Cost};
-ghost use Rattle.tree_model.specs.Tree.{IsLive, Released};
+ghost use Rattle.raw_array.specs.promise.Members.{Cost};
+ghost use Rattle.tree_model.specs.promise.TreeParts.{IsLive};
+ghost use Rattle.tree_model.specs.promise.TreeData.{Released};
 ghost use Rattle.unit_pass.specs.declared.pass.TheConstants.{CHUNK};
 
 use crate::Refused;

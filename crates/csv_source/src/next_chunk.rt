@@ -1,13 +1,14 @@
 //! The chunk of the next batch of a text.
 ghost use Rattle.std.specs.Prelude.{◌≡◌, ◌≤◌, ◌+◌, ◌*◌, ◌^◌, List, None, pos, length, IfErr, OnErr, OnOk};
-ghost use Rattle.csv_model.specs.Header.{most_columns};
+ghost use Rattle.csv_model.specs.promise.Header.{most_columns};
 ghost use Rattle.csv_read.specs.BatchesLeft.{batches_left, columns_in};
 ghost use Rattle.csv_read.specs.Body.{HoldRows};
 ghost use Rattle.csv_source.specs.SourceStreams.{AreShort, no_batches};
 ghost use Rattle.csv_source.specs.NextChunks.{CountsNothing, EndsAt, IsNextChunk, ending_of};
-ghost use Rattle.data_types.specs.Table.{Column, Row};
-ghost use Rattle.raw_array.specs.Members.{Cost};
-ghost use Rattle.tree_model.specs.Tree.{IsLive, Released};
+ghost use Rattle.data_types.specs.promise.Table.{Column, Row};
+ghost use Rattle.raw_array.specs.promise.Members.{Cost};
+ghost use Rattle.tree_model.specs.promise.TreeParts.{IsLive};
+ghost use Rattle.tree_model.specs.promise.TreeData.{Released};
 ghost use Rattle.unit_pass.specs.declared.pass.TheConstants.{CHUNK};
 
 use crate::Refused;

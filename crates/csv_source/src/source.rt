@@ -1,8 +1,8 @@
 //! The records of a text as a stream of chunks, which are read when they are asked for.
 ghost use Rattle.std.specs.Prelude.{◌≡◌, ◌≤◌, ◌^◌, None, Some, map, length, vec_len, IfOk};
 ghost use Rattle.std.specs.Coded.{codes};
-ghost use Rattle.csv_model.specs.Batches.{batches_in};
-ghost use Rattle.csv_model.specs.Header.{most_columns};
+ghost use Rattle.csv_model.specs.promise.Batches.{batches_in};
+ghost use Rattle.csv_model.specs.promise.Header.{most_columns};
 ghost use Rattle.csv_source.specs.SourceStreams.{AreShort};
 ghost use Rattle.csv_source.specs.NextChunks.{ending_of};
 ghost use Rattle.csv_source.specs.Refusals.{refusal_in, row_in};

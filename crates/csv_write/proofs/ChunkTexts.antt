@@ -7,17 +7,18 @@ use Rattle.std.proofs.lemmas.List.{length-append, length-map, map-append, get_or
 use Rattle.std.proofs.Math.Seq.{get_or-append_seam}
 use Rattle.std.proofs.lemmas.List.Folds.{concat-append}
 use Rattle.csv.specs.Writing.{default_writer, row_text}
-use Rattle.data_types.specs.FieldText.{Form, Truths, Wholes, FloatBits, Text, HexBytes, SizedHex, Decimals, form_of, written_field, written_form, written_if}
-use Rattle.data_types.specs.FieldText.{written_text}
+use Rattle.data_types.specs.promise.FieldText.{Form, Truths, Wholes, FloatBits, Text, HexBytes, SizedHex, Decimals, form_of, written_field, written_form, written_if}
+use Rattle.data_types.specs.promise.FieldText.{written_text}
 use Rattle.data_types.specs.declared.kind.DataType.{DataType}
 use Rattle.data_types.specs.declared.kind.DataType.TheVariants as kinds
-use Rattle.data_types.specs.Table.{Column, Kind, Flat, Dict, Columns}
-use Rattle.data_types.specs.Value.{Value, Null, Truth, Whole, Bits, Bytes, Items, Fields}
-use Rattle.csv_model.specs.Text.{row_fields, rows_text}
-use Rattle.tree_model.specs.Tree.{children_of, tree_list, trees}
-use Rattle.data_types.specs.KindTrees.{KindTree}
-use Rattle.layout_rules.specs.Values.{each, row_items}
-use Rattle.data_types.specs.ColumnKinds.{type_of_column, type_of_columns, types_of_columns}
+use Rattle.data_types.specs.promise.Table.{Column, Kind, Flat, Dict, Columns}
+use Rattle.data_types.specs.promise.Value.{Value, Null, Truth, Whole, Bits, Bytes, Items, Fields}
+use Rattle.csv_model.specs.promise.Text.{row_fields, rows_text}
+use Rattle.tree_model.specs.promise.TreeParts.{children_of}
+use Rattle.tree_model.specs.promise.TreeData.{tree_list, trees}
+use Rattle.data_types.specs.promise.KindTrees.{KindTree}
+use Rattle.layout_rules.specs.promise.Values.{each, row_items}
+use Rattle.data_types.specs.promise.ColumnKinds.{type_of_column, type_of_columns, types_of_columns}
 use Rattle.arr_import.specs.Cols.{window_of}
 use Rattle.arr_import.specs.Window.{Window, child_window, item_at}
 use Rattle.csv_write.specs.ChunkTexts.{AreChildren, HasRow, IsChild, row_at, rows_at, text_in}

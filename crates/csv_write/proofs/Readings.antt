@@ -1,7 +1,7 @@
 -- What is read of a column's items, place by place.
 use Rattle.std.proofs.Common.{◌≡◌, ◌<◌, ℕ, zero, suc, List, [], ◌∷◌, length, get_or, refl, sym, ap, subst, arith, ◌∙◌}
 use Rattle.std.specs.List.{AllZip}
-use Rattle.data_types.specs.Value.{Value}
+use Rattle.data_types.specs.promise.Value.{Value}
 use Rattle.arr_import.specs.Plain.{IsItemThere}
 use Rattle.arr_import.specs.declared.plain.Plain.{Plain}
 use Rattle.field_codec.specs.FieldForms.{written_in}

@@ -6,22 +6,25 @@ use Rattle.std.proofs.lemmas.List.{append-nil, append_assoc, map-append}
 use Rattle.std.proofs.lemmas.List.Folds.{concat-append}
 use Rattle.std.specs.List.{concat}
 use Rattle.csv.specs.Writing.{default_writer, row_text}
-use Rattle.data_types.specs.Parts.{joined_rows}
-use Rattle.data_types.specs.Table.{Column, Row}
-use Rattle.tree_model.specs.Tree.{Released, IsLive}
-use Rattle.raw_array.specs.Members.{ArrayTree}
-use Rattle.unit_pass.specs.Tally.{Tally, risen}
+use Rattle.data_types.specs.promise.Parts.{joined_rows}
+use Rattle.data_types.specs.promise.Table.{Column, Row}
+use Rattle.tree_model.specs.promise.TreeData.{Released}
+use Rattle.tree_model.specs.promise.TreeParts.{IsLive}
+use Rattle.raw_array.specs.promise.Members.{ArrayTree}
+use Rattle.unit_pass.specs.promise.Tally.{risen}
+use Rattle.unit_pass.specs.Tally.{Tally}
 use Rattle.unit_pass.specs.declared.no_memory.NoMemory.{NoMemory}
-use Rattle.csv_model.specs.Text.{row_fields, rows_text}
-use Rattle.data_types.specs.KindTrees.{KindTree}
-use Rattle.layout_rules.specs.Values.{rows_of}
-use Rattle.data_types.specs.ColumnKinds.{type_of_columns}
+use Rattle.csv_model.specs.promise.Text.{row_fields, rows_text}
+use Rattle.data_types.specs.promise.KindTrees.{KindTree}
+use Rattle.layout_rules.specs.promise.Values.{rows_of}
+use Rattle.data_types.specs.promise.ColumnKinds.{type_of_columns}
 use Rattle.arr_import.specs.Window.{Window, whole}
 use Rattle.csv_write.specs.CsvTexts.{HasText, rows_in}
 use Rattle.csv_write.specs.declared.csv_text.CsvText.{CsvText}
-use Rattle.stream_face.specs.Calls.{Answers, Counts, IsCode, GoesOn, IsMade, Repeats, ShowsInOrder}
+use Rattle.stream_face.specs.promise.Calls.{IsMade}
+use Rattle.stream_face.specs.Calls.{Answers, Counts, IsCode, GoesOn, Repeats, ShowsInOrder}
 use Rattle.stream_face.specs.Codes.{enomem}
-use Rattle.stream_face.specs.Shown.{Seen, grown, of_link, rows_of_link}
+use Rattle.stream_face.specs.promise.Shown.{Seen, grown, of_link, rows_of_link}
 use Rattle.stream_face.specs.Streams.{IsFresh, Keeps, Stream, Traffic}
 use Rattle.stream_face.specs.Texts.{Refusal}
 use Rattle.stream_face.proofs.Joints.{grown-append, had_memory, live_unless, of_link-append}
@@ -29,7 +32,8 @@ use Rattle.stream_face.proofs.Orders.{goes-both, goes-start, made-both, made-non
 use Rattle.csv_write.specs.Faults.{OnRow}
 use Rattle.csv_write.specs.declared.fault.DriveFault.{DriveFault}
 use Rattle.csv_write.specs.declared.fault.DriveFault.TheVariants as drives
-use Rattle.csv_write.specs.Runs.{Counted, Ran, ShowsAll, ShowsSome}
+use Rattle.csv_write.specs.promise.Runs.{ShowsAll, ShowsSome}
+use Rattle.csv_write.specs.Runs.{Counted, Ran}
 
 pub grown-nil : (seen : Option (List Seen)) → seen ≡ grown seen []
 grown-nil None = refl

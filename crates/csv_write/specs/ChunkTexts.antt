@@ -1,12 +1,12 @@
 -- The texts of the items of a chunk's columns, under a mark for null.
 use Rattle.std.specs.Prelude.{◌≡◌, ◌<◌, ◌+◌, ◌^◌, ℕ, List, map, length, get_or, IfSome}
-use Rattle.data_types.specs.FieldText.{Text}
-use Rattle.data_types.specs.Value.{Null}
-use Rattle.layout_rules.specs.Values.{each, row_items}
+use Rattle.data_types.specs.promise.FieldText.{Text}
+use Rattle.data_types.specs.promise.Value.{Null}
+use Rattle.layout_rules.specs.promise.Values.{each, row_items}
 use Rattle.arr_import.specs.Cols.{window_of}
 use Rattle.arr_import.specs.Indexing.{shown_by}
 use Rattle.arr_import.specs.Window.{Window, item_at}
-use Rattle.csv_model.specs.Reading.{Record}
+use Rattle.csv_model.specs.promise.Reading.{Record}
 use Rattle.field_codec.specs.FieldForms.{IsProper, form_in, written_in}
 use Rattle.csv_write.specs.declared.chunk_text.ChunkColumn.{ChunkColumn}
 use Rattle.field_codec.specs.declared.form.FieldForm.{FieldForm}

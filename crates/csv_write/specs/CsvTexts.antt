@@ -1,9 +1,9 @@
 -- What contracts see of the text of a table in the making.
 use Rattle.std.specs.Prelude.{◌≡◌, ℕ, List, Some}
 use Rattle.std.specs.List.{AllZip}
-use Rattle.data_types.specs.FieldText.{form_of}
-use Rattle.data_types.specs.Table.{Column, Row, Kind, Flat, Dict, Columns}
-use Rattle.layout_rules.specs.Values.{each, row_items}
+use Rattle.data_types.specs.promise.FieldText.{form_of}
+use Rattle.data_types.specs.promise.Table.{Column, Row, Kind, Flat, Dict, Columns}
+use Rattle.layout_rules.specs.promise.Values.{each, row_items}
 use Rattle.arr_import.specs.Window.{Window}
 use Rattle.field_codec.specs.FieldForms.{IsProper, form_in}
 use Rattle.csv_write.specs.Lines.{HasLines}

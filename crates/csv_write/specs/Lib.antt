@@ -1,3 +1,4 @@
+pub mod promise
 pub mod Lines
 pub mod CsvTexts
 pub mod ChunkTexts

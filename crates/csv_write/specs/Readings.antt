@@ -1,7 +1,7 @@
 -- How the items of a column are read: what a reading shows are the column's items, and it is written in the column's form.
 use Rattle.std.specs.Prelude.{◌≡◌, List}
 use Rattle.std.specs.List.{AllZip}
-use Rattle.data_types.specs.FieldText.{Text}
+use Rattle.data_types.specs.promise.FieldText.{Text}
 use Rattle.arr_import.specs.Cols.{window_of}
 use Rattle.arr_import.specs.Indexing.{shown_by}
 use Rattle.arr_import.specs.Plain.{ShowsItems, storage_in}

@@ -1,24 +1,11 @@
 -- A run over a stream to its end, call by call.
 use Rattle.std.specs.Prelude.{◌≡◌, ◌+◌, ◌++◌, ℕ, List, Option, None}
-use Rattle.unit_pass.specs.Tally.{Tally, risen}
-use Rattle.stream_face.specs.Calls.{Begins, GoesOn, IsMade}
-use Rattle.stream_face.specs.Shown.{Seen, Shown, grown, of_link, rows_of_link}
-use Rattle.stream_face.specs.Streams.{Keeps, Making, Stream, Traffic}
-
--- a run has shown all tables of each link, each once and in order, and each after all that it is made of: at each moment no more was seen of a
--- link than what is made of what was seen of the one before it
-pub record ShowsAll (joints : ℕ → List Shown) (makings : ℕ → Option Making) (before after : Option (List Seen)) : Type 0 where
-  pub shown : List Seen
-  pub told : after ≡ grown before shown
-  pub all : (link : ℕ) → of_link link shown ≡ joints link
-  pub in_order : (first rest : List Seen) → shown ≡ first ++ rest → (link : ℕ) → IsMade (makings link) link first
-
--- a run has shown the first tables of each link, in this order
-pub record ShowsSome (joints : ℕ → List Shown) (makings : ℕ → Option Making) (before after : Option (List Seen)) : Type 0 where
-  pub shown : List Seen
-  pub told : after ≡ grown before shown
-  pub begins : (link : ℕ) → Begins (of_link link shown) (joints link)
-  pub in_order : (first rest : List Seen) → shown ≡ first ++ rest → (link : ℕ) → IsMade (makings link) link first
+use Rattle.unit_pass.specs.promise.Tally.{risen}
+use Rattle.unit_pass.specs.Tally.{Tally}
+use Rattle.stream_face.specs.promise.Calls.{IsMade}
+use Rattle.stream_face.specs.Calls.{GoesOn}
+use Rattle.stream_face.specs.promise.Shown.{Seen, grown, of_link, rows_of_link}
+use Rattle.stream_face.specs.Streams.{Keeps, Stream, Traffic}
 
 -- this many blocks and nodes were counted
 pub record Counted (made : Traffic) (before after : Tally) : Type 0 where

@@ -1,6 +1,6 @@
 -- The ways in which the items of plain columns are written: the form of the fields, and how the items are stored.
 use Rattle.std.specs.Prelude.{true, false}
-use Rattle.data_types.specs.FieldText.{Form, Truths, Wholes, FloatBits, Text, HexBytes, SizedHex, Decimals}
+use Rattle.data_types.specs.promise.FieldText.{Form, Truths, Wholes, FloatBits, Text, HexBytes, SizedHex, Decimals}
 use Rattle.data_types.specs.declared.storage.Storage.{Storage}
 use Rattle.data_types.specs.declared.storage.Storage.TheVariants as storages
 use Rattle.csv_write.specs.declared.way.Way.{Way}

@@ -1,11 +1,11 @@
 //! The columns of a chunk, and the texts of their items.
 ghost use Rattle.std.specs.Prelude.{◌≡◌, ◌<◌, ◌≤ℤ◌, ◌<ℤ◌, pos, ◌^◌, All, length, IfOk, IfSome};
-ghost use Rattle.data_types.specs.FieldText.Form.{Text};
-ghost use Rattle.tree_model.specs.Tree.{children_of};
+ghost use Rattle.data_types.specs.promise.FieldText.Form.{Text};
+ghost use Rattle.tree_model.specs.promise.TreeParts.{children_of};
 ghost use Rattle.arr_import.specs.Cols.{window_of};
 ghost use Rattle.arr_import.specs.Window.{IsStruct, item_at};
 ghost use Rattle.arr_import.specs.Indexing.{shown_by};
-ghost use Rattle.layout_rules.specs.Layout.{natural};
+ghost use Rattle.layout_rules.specs.promise.Layout.{natural};
 ghost use Rattle.field_codec.specs.FieldForms.{form_in, null_text, written_in};
 ghost use Rattle.csv_write.specs.ChunkTexts.{AreChildren, HasItem, HasEntries, text_in};
 

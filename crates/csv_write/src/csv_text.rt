@@ -7,9 +7,9 @@
 //! chunk's window, whether or not the struct's item is null.
 ghost use Rattle.std.specs.Prelude.{◌≡◌, ◌++◌, ℕ, List, map, IfOk, OnOk};
 ghost use Rattle.data_types.specs.ColumnView.{column_of};
-ghost use Rattle.data_types.specs.Table.{Column};
-ghost use Rattle.csv_model.specs.Text.{header_text, rows_text};
-ghost use Rattle.data_types.specs.ColumnKinds.{type_of_columns};
+ghost use Rattle.data_types.specs.promise.Table.{Column};
+ghost use Rattle.csv_model.specs.promise.Text.{header_text, rows_text};
+ghost use Rattle.data_types.specs.promise.ColumnKinds.{type_of_columns};
 ghost use Rattle.arr_import.specs.Cols.{window_of};
 ghost use Rattle.csv_write.specs.CsvTexts.{HasText, rows_in};
 ghost use Rattle.csv_write.specs.Readings.{ReadsChildren};

@@ -1,22 +1,23 @@
 //! The text of all chunks of a stream.
 ghost use Rattle.std.specs.Prelude.{◌≡◌, ◌≤◌, ◌+◌, ◌++◌, ◌∷◌, List, Option, Some, None, ℕ, IsTrue, IfOk, IfErr, OnOk, OnErr};
 ghost use Rattle.std.specs.Thread.{IsSync};
-ghost use Rattle.data_types.specs.Table.{Column};
-ghost use Rattle.data_types.specs.Parts.{joined_rows};
-ghost use Rattle.tree_model.specs.Tree.{Released};
-ghost use Rattle.raw_array.specs.Members.{ArrayTree, Cost};
-ghost use Rattle.csv_model.specs.Text.{rows_text};
+ghost use Rattle.data_types.specs.promise.Table.{Column};
+ghost use Rattle.data_types.specs.promise.Parts.{joined_rows};
+ghost use Rattle.tree_model.specs.promise.TreeData.{Released};
+ghost use Rattle.raw_array.specs.promise.Members.{ArrayTree, Cost};
+ghost use Rattle.csv_model.specs.promise.Text.{rows_text};
 ghost use Rattle.csv_write.specs.CsvTexts.{HasText};
 ghost use Rattle.data_types.specs.KindTrees.{TypedOk};
-ghost use Rattle.data_types.specs.TypedView.{typed_of};
-ghost use Rattle.layout_rules.specs.Values.{rows_of};
-ghost use Rattle.layout_rules.specs.Walk.{LayoutOk};
-ghost use Rattle.data_types.specs.ColumnKinds.{type_of_columns};
+ghost use Rattle.data_types.specs.promise.TypedView.{typed_of};
+ghost use Rattle.layout_rules.specs.promise.Values.{rows_of};
+ghost use Rattle.layout_rules.specs.promise.Walk.{LayoutOk};
+ghost use Rattle.data_types.specs.promise.ColumnKinds.{type_of_columns};
 ghost use Rattle.data_types.specs.declared.row_fault.RowFault.{RowFault as ARow};
 ghost use Rattle.unit_pass.specs.declared.pass.TheConstants.{ROOM, SUPPLY};
 ghost use Rattle.stream_face.specs.Meaning.{meaning};
 ghost use Rattle.stream_face.specs.Streams.{IsFresh, Keeps, Stream, kept};
-ghost use Rattle.csv_write.specs.Runs.{Counted, ShowsAll, ShowsSome};
+ghost use Rattle.csv_write.specs.promise.Runs.{ShowsAll, ShowsSome};
+ghost use Rattle.csv_write.specs.Runs.{Counted};
 ghost use Rattle.csv_write.specs.Faults.{IfRow, OnRow};
 
 use crate::CsvText;

@@ -1,7 +1,7 @@
 //! How the items of a chunk's columns are read, settled before the first of them.
 ghost use Rattle.std.specs.Prelude.{◌≡◌, Option, All, length, IfOk, IfSome};
 ghost use Rattle.std.specs.List.{AllZip};
-ghost use Rattle.tree_model.specs.Tree.{children_of};
+ghost use Rattle.tree_model.specs.promise.TreeParts.{children_of};
 ghost use Rattle.arr_import.specs.Cols.{window_of};
 ghost use Rattle.arr_import.specs.Window.{IsStruct};
 ghost use Rattle.arr_import.specs.declared.indexed.Indexed.{Indexed};

@@ -1,6 +1,7 @@
 //! The ways in which the items of plain columns are written, settled before the first of them.
 ghost use Rattle.std.specs.Prelude.{◌≡◌, ℕ, List, IfOk, IfSome};
-ghost use Rattle.data_types.specs.FieldText.{FloatBits, HexBytes, IsFlatForm, Text, Wholes};
+ghost use Rattle.data_types.specs.promise.FieldText.{FloatBits, HexBytes, Text, Wholes};
+ghost use Rattle.data_types.specs.FieldText.{IsFlatForm};
 ghost use Rattle.data_types.specs.declared.storage.Storage.TheVariants as storages;
 ghost use Rattle.arr_import.specs.Plain.{IsItemThere, storage_in, valid_item};
 ghost use Rattle.field_codec.specs.FieldForms.{form_in, written_in};

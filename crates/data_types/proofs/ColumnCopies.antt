@@ -2,8 +2,9 @@
 use Rattle.std.proofs.Common.{◌≡◌, ◌∙◌, ◌≤◌, ◌<◌, ◌+◌, ℕ, zero, suc, List, [], ◌∷◌, length, get_or, map, refl, ap, sym, subst, arith, rules, Vec, Global}
 use Rattle.std.specs.Prelude.{All}
 use Rattle.data_types.specs.ColumnForms.{KindsOk, MembersOk}
-use Rattle.data_types.specs.ColumnView.{column_of, kind_of, members}
-use Rattle.data_types.specs.Table.{Column, Kind, Flat, Dict, Columns, Members, no_members, more_members}
+use Rattle.data_types.specs.promise.ColumnView.{members}
+use Rattle.data_types.specs.ColumnView.{column_of, kind_of}
+use Rattle.data_types.specs.promise.Table.{Column, Kind, Flat, Dict, Columns, Members, no_members, more_members}
 use Rattle.data_types.specs.declared.kind.ColKind.{Columns as CodeColumns}
 use Rattle.data_types.specs.declared.kind.ColKind.TheViews.{the_lemmas}
 use Rattle.data_types.specs.declared.kind.ColumnType.{ColumnType}

@@ -11,10 +11,12 @@ use Rattle.std.proofs.lemmas.Bool.{and_parts, or_cases, leb-true, ltb-true, eqb-
 use Rattle.std.specs.Int.{is_in_range}
 use Rattle.std.proofs.lemmas.Int.Digits.{digits_value-lt}
 use Rattle.data_types.specs.declared.kind.DataType.{DataType}
-use Rattle.data_types.specs.Value.{Value, Null, Truth, Whole, Bits, Bytes, Items, Fields}
-use Rattle.data_types.specs.FieldText.{Form, is_numeral, in_range, hex_bytes, read_unscaled, read_form, read_field, read_text, IsFlatForm, IsSomeFlat}
-use Rattle.data_types.specs.FieldText.{IsFlatKind, IsOfForm, IsOfSome, IsValueOf, form_of}
-use Rattle.data_types.specs.FieldText.Form.{Truths, Wholes, FloatBits, Text, HexBytes, SizedHex, Decimals}
+use Rattle.data_types.specs.promise.Value.{Value, Null, Truth, Whole, Bits, Bytes, Items, Fields}
+use Rattle.data_types.specs.promise.FieldText.{Form, is_numeral, in_range, hex_bytes, read_unscaled, read_form, read_field, read_text}
+use Rattle.data_types.specs.FieldText.{IsFlatForm, IsSomeFlat}
+use Rattle.data_types.specs.promise.FieldText.{form_of}
+use Rattle.data_types.specs.FieldText.{IsFlatKind, IsOfForm, IsOfSome, IsValueOf}
+use Rattle.data_types.specs.promise.FieldText.Form.{Truths, Wholes, FloatBits, Text, HexBytes, SizedHex, Decimals}
 use Rattle.data_types.proofs.FieldLaws.{float_width}
 
 -- ---- answers

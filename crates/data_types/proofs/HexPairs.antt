@@ -5,7 +5,7 @@ use Rattle.std.specs.Prelude.{MatchResult, MatchOption, ◌==◌, ◌&&◌}
 use Rattle.std.specs.Option.{option_map}
 use Rattle.std.specs.Char.{is_ascii_hexdigit, digit_value}
 use Rattle.std.proofs.lemmas.Bool.{cases_Bool, cases_lt, lt-ltb, le-ltb, lt-leb, le-leb, eq-eqb, eqb-true, false≢true}
-use Rattle.data_types.specs.FieldText.{hex_bytes}
+use Rattle.data_types.specs.promise.FieldText.{hex_bytes}
 use Rattle.hex.specs.Hex.{decode_pairs, decode_sized, ◌>>=◌, hex_digit_value}
 use Rattle.hex.specs.declared.error.FromHexError.{FromHexError}
 

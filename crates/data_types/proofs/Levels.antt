@@ -1,13 +1,16 @@
 -- One level of the code's tree of kinds.
 use Rattle.std.proofs.Common.{◌≡◌, ℕ, zero, suc, ◌+◌, ◌<◌, ◌≤◌, max, List, [], ◌∷◌, length, get_or, map, Option, None, Some, refl, ap, ◌∙◌, subst, arith}
 use Rattle.std.specs.Global.{Box}
-use Rattle.tree_model.specs.Tree.{Live, Released, trees, maybe_tree, Depth, depth_of_all, depth_of_maybe}
-use Rattle.data_types.specs.KindTrees.{KindTree, NodesOk, AllNodesOk, DictNodesOk}
+use Rattle.tree_model.specs.promise.TreeData.{Live, Released, trees, maybe_tree}
+use Rattle.tree_model.specs.Tree.{Depth, depth_of_all, depth_of_maybe}
+use Rattle.data_types.specs.promise.KindTrees.{KindTree}
+use Rattle.data_types.specs.KindTrees.{NodesOk, AllNodesOk, DictNodesOk}
 use Rattle.data_types.specs.Kinds.{KindOk}
 use Rattle.data_types.specs.declared.typed.Typed.{Typed, out-Typed}
 use Rattle.data_types.specs.declared.typed.Typed.TheOpen.{Typed-F}
 use Rattle.data_types.specs.declared.typed.Typed.TheFolds.{map-Typed, fold_out-Typed}
-use Rattle.data_types.specs.TypedView.{typed_of, layer, dict_of, dict_in, kids_of}
+use Rattle.data_types.specs.promise.TypedView.{typed_of, layer, dict_of}
+use Rattle.data_types.specs.TypedView.{dict_in, kids_of}
 
 dict_at : (x : Typed-F Typed) (d : Option (Box Typed)) → x.dict ≡ d → dict_of (map-Typed Typed KindTree typed_of x).dict ≡ dict_in d
 dict_at x None e = rw e refl

@@ -1,10 +1,11 @@
 -- A type that is made of types that are in order.
 use Rattle.std.proofs.Common.{subst, sym}
 use Rattle.data_types.specs.Kinds.{KindOk}
-use Rattle.tree_model.specs.Tree.{trees, maybe_tree}
+use Rattle.tree_model.specs.promise.TreeData.{trees, maybe_tree}
 use Rattle.data_types.specs.KindTrees.{KidsOk, DictOk, NodesOk, AllNodesOk, DictNodesOk}
 use Rattle.data_types.specs.declared.typed.Typed.{Typed, out-Typed}
-use Rattle.data_types.specs.TypedView.{typed_of, kids_of, dict_in}
+use Rattle.data_types.specs.promise.TypedView.{typed_of}
+use Rattle.data_types.specs.TypedView.{kids_of, dict_in}
 use Rattle.data_types.proofs.Levels.{typed_out, levels-typed}
 
 pub nodes-made : (t : Typed) → KindOk (out-Typed t).kind → KidsOk (out-Typed t).kind (trees (kids_of t))

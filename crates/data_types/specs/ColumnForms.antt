@@ -1,8 +1,8 @@
 -- Which types the columns of a table have.
 use Rattle.std.specs.Prelude.{Option, None, Some}
-use Rattle.data_types.specs.FieldText.{Form, form_of}
+use Rattle.data_types.specs.promise.FieldText.{Form, form_of}
 use Rattle.data_types.specs.Kinds.{KindOk}
-use Rattle.data_types.specs.Table.{Kind, Flat, Dict, Columns, Members, no_members, more_members}
+use Rattle.data_types.specs.promise.Table.{Kind, Flat, Dict, Columns, Members, no_members, more_members}
 use Rattle.data_types.specs.declared.kind.DataType.{DataType}
 
 abbrev pub HasForm : Option Form → Type 0

@@ -1,9 +1,8 @@
 -- The columns that the code keeps, as columns of a table.
-use Rattle.std.specs.Prelude.{List, [], ◌∷◌}
 use Rattle.data_types.specs.declared.kind.ColKind.{ColKind, Flat as CodeFlat, Dict as CodeDict, Columns', Row_of-ColumnType, end_of-ColumnType}
 use Rattle.data_types.specs.declared.kind.ColKind.{more_of-ColumnType}
 use Rattle.data_types.specs.declared.kind.ColumnType.{ColumnType}
-use Rattle.data_types.specs.Table.{Kind, Flat, Dict, Columns, Members, no_members, more_members, Column}
+use Rattle.data_types.specs.promise.Table.{Kind, Flat, Dict, Columns, Members, no_members, more_members, Column}
 
 abbrev mutual
   pub kind_of : ColKind → Kind
@@ -17,7 +16,3 @@ abbrev mutual
 
 abbrev pub column_of : ColumnType → Column
 column_of column = record { name = column.name; kind = kind_of column.kind }
-
-abbrev pub members : List Column → Members
-members [] = no_members
-members (c ∷ cs) = more_members c.name c.kind (members cs)

@@ -1,20 +1,11 @@
 -- The kinds of a schema that is in order, as a tree. No node of it is released.
-use Rattle.std.specs.Prelude.{ℕ, ◌+◌, ◌≤◌}
+use Rattle.std.specs.Prelude.{◌≤◌}
 use Rattle.data_types.specs.Kinds.{KindOk}
 use Rattle.data_types.specs.declared.kind.DataType.{DataType}
 use Rattle.data_types.specs.declared.kind.DataType.TheVariants as kinds
-use Rattle.tree_model.specs.Tree.{Tree, Released, Live, members_or, Trees, no_trees, more_trees, MaybeTree, absent, present, Depth}
-
-abbrev pub KindTree : Type 0
-KindTree = Tree DataType
-
--- the type at the root, and Null where there is none
-abbrev pub kind_in : KindTree → DataType
-kind_in typed = members_or kinds.Null typed
-
-abbrev pub tree_count : {A : Type 0} → Trees A → ℕ
-tree_count no_trees = 0
-tree_count (more_trees t ts) = tree_count ts + 1
+use Rattle.tree_model.specs.promise.TreeData.{Released, Live, Trees, no_trees, more_trees, MaybeTree, absent, present}
+use Rattle.tree_model.specs.Tree.{Depth}
+use Rattle.data_types.specs.promise.KindTrees.{KindTree, most_levels}
 
 -- a struct with two fields
 abbrev pub IsPairOfColumns : KindTree → Type 0
@@ -56,10 +47,6 @@ abbrev mutual
   pub DictNodesOk : MaybeTree DataType → Type 0
   DictNodesOk absent = Unit {0}
   DictNodesOk (present dict) = NodesOk dict
-
--- the most levels of a tree of kinds
-abbrev pub most_levels : ℕ
-most_levels = 64
 
 abbrev pub TypedOk : KindTree → Type 0
 TypedOk typed = (Depth typed ≤ most_levels) × NodesOk typed

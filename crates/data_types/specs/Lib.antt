@@ -1,6 +1,4 @@
-pub mod Value
-pub mod Table
-pub mod Storage
+pub mod promise
 pub mod FieldText
 pub mod Kinds
 pub mod ColumnView
@@ -9,10 +7,6 @@ pub mod Parts
 pub mod FaultTexts
 pub mod KindTrees
 pub mod TypedView
-pub mod Ways
-pub mod WayTexts
-pub mod ColumnKinds
 pub mod Packed
 pub mod ValueTexts
-pub mod NumberedTexts
 pub mod Groups

@@ -1,7 +1,8 @@
 //! A struct of columns as a kind: the one call that makes it, so that contracts above can name what it holds.
 ghost use Rattle.std.specs.Prelude.{◌≡◌, map};
-ghost use Rattle.data_types.specs.Table.{Columns};
-ghost use Rattle.data_types.specs.ColumnView.{kind_of, column_of, members};
+ghost use Rattle.data_types.specs.promise.Table.{Columns};
+ghost use Rattle.data_types.specs.promise.ColumnView.{members};
+ghost use Rattle.data_types.specs.ColumnView.{kind_of, column_of};
 
 use crate::{ColKind, ColumnType};
 

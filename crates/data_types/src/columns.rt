@@ -1,7 +1,8 @@
 //! Which types a column may have, which of them a field can spell, and copies of types.
 ghost use Rattle.std.specs.Prelude.{◌≡◌, IfOk, IfErr, is_some};
-ghost use Rattle.data_types.specs.FieldText.{stored_form};
-ghost use Rattle.data_types.specs.Kinds.{KindOk, HasZone, is_flat, is_within, is_column_type};
+ghost use Rattle.data_types.specs.promise.FieldText.{stored_form};
+ghost use Rattle.data_types.specs.promise.Kinds.{is_flat, is_within, is_column_type};
+ghost use Rattle.data_types.specs.Kinds.{KindOk, HasZone};
 
 use crate::{DataType, Storage, storage_of};
 use std::alloc::Global;

@@ -1,8 +1,9 @@
-//! Laws of the field texts (`specs/FieldText.antt`): functions with an empty body, whose contracts are the laws.
+//! Laws of the field texts (`specs/promise/FieldText.antt`): functions with an empty body, whose contracts are the laws.
 ghost use Rattle.std.specs.Prelude.{◌≡◌, ◌⊎◌, ◌*◌, ◌^◌, ℕ, pos, negsuc, true, false, [], ◌∷◌, List, Option, None, Some, codes};
 ghost use Rattle.data_types.specs.declared.kind.DataType.TheVariants.{Bool, Int, Float, Utf8, Binary, FixedBinary, Decimal, DateDay};
-ghost use Rattle.data_types.specs.Value.{Value, Null, Truth, Whole, Bits, Bytes};
-ghost use Rattle.data_types.specs.FieldText.{read_field, written_text, IsFlatKind, IsValueOf};
+ghost use Rattle.data_types.specs.promise.Value.{Value, Null, Truth, Whole, Bits, Bytes};
+ghost use Rattle.data_types.specs.promise.FieldText.{read_field, written_text};
+ghost use Rattle.data_types.specs.FieldText.{IsFlatKind, IsValueOf};
 
 use crate::DataType;
 

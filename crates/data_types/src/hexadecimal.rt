@@ -1,7 +1,7 @@
 //! Bytes by pairs of hexadecimal digits.
 ghost use Rattle.std.specs.Prelude.{◌≡◌, ◌/◌, None, Some, length};
 ghost use Rattle.std.specs.Bool.{OnTrue, OnFalse};
-ghost use Rattle.data_types.specs.FieldText.{hex_bytes};
+ghost use Rattle.data_types.specs.promise.FieldText.{hex_bytes};
 
 use hex::decode_to_slice;
 

@@ -1,8 +1,9 @@
 //! What the kinds of a schema are to their reader, as a law over the definitions. The call does nothing.
 ghost use Rattle.std.specs.Prelude.{◌≡◌};
-ghost use Rattle.tree_model.specs.Tree.{Live, trees, maybe_tree};
+ghost use Rattle.tree_model.specs.promise.TreeData.{Live, trees, maybe_tree};
 ghost use Rattle.data_types.specs.declared.typed.Typed.{out-Typed};
-ghost use Rattle.data_types.specs.TypedView.{typed_of, kind_of, kids_of, dict_in};
+ghost use Rattle.data_types.specs.promise.TypedView.{typed_of};
+ghost use Rattle.data_types.specs.TypedView.{kind_of, kids_of, dict_in};
 
 use crate::typed::Typed;
 

@@ -2,8 +2,8 @@
 ghost use Rattle.std.specs.Prelude.{◌≡◌, ◌↔◌, ◌+◌, ◌<◌, ◌≤◌, ℕ, [], ◌∷◌, ◌++◌, IsTrue, nat_eq};
 ghost use Rattle.std.specs.Cmp.{on_equiv, on_per, partial_equiv_from_equiv};
 ghost use Rattle.std.specs.Cmp.Lexicographic.{nat_list_eq_equiv, pointwise};
-ghost use Rattle.data_types.specs.KindTrees.{most_levels};
-ghost use Rattle.data_types.specs.Ways.{Steps, path_of, steps_of};
+ghost use Rattle.data_types.specs.promise.KindTrees.{most_levels};
+ghost use Rattle.data_types.specs.promise.Ways.{Steps, path_of, steps_of};
 
 /// Where a node is: the numbers of the children on the way to it, or [`DICTIONARY_STEP`]. The first `depth` of the
 /// steps lead there; what follows them means nothing, and two paths are equal where their steps are.

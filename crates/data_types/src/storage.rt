@@ -1,6 +1,6 @@
 //! How the values of each type are stored.
 ghost use Rattle.std.specs.Prelude.{◌≡◌, true};
-ghost use Rattle.data_types.specs.Storage.{storage_of, time_bits};
+ghost use Rattle.data_types.specs.promise.Storage.{storage_of, time_bits};
 ghost use Rattle.data_types.specs.declared.storage.Storage.TheVariants.{Wholes};
 
 use crate::{DataType, Tick};

@@ -1,15 +1,15 @@
 -- A column of a chunk, as a window over its items and as the values of the chunk's rows.
 use Rattle.std.proofs.Common.{◌≡◌, ◌∙◌, ◌+◌, ℕ, zero, suc, Bool, true, false, List, ◌∷◌, length, map, get_or, refl, sym, ap, subst, arith}
 use Rattle.std.proofs.lemmas.List.{length-map}
-use Rattle.data_types.specs.Parts.{column_values}
-use Rattle.data_types.specs.Table.{Row}
-use Rattle.data_types.specs.Value.{Value, Null}
+use Rattle.data_types.specs.promise.Parts.{column_values}
+use Rattle.data_types.specs.promise.Table.{Row}
+use Rattle.data_types.specs.promise.Value.{Value, Null}
 use Rattle.data_types.specs.declared.kind.DataType.{DataType}
-use Rattle.tree_model.specs.Tree.{Released, Live}
-use Rattle.raw_array.specs.Members.{ArrayTree, members_of}
-use Rattle.data_types.specs.KindTrees.{KindTree}
-use Rattle.layout_rules.specs.Layout.{natural}
-use Rattle.layout_rules.specs.Values.{each, row_items, rows_of, tree_items, value_at}
+use Rattle.tree_model.specs.promise.TreeData.{Released, Live}
+use Rattle.raw_array.specs.promise.Members.{ArrayTree, members_of}
+use Rattle.data_types.specs.promise.KindTrees.{KindTree}
+use Rattle.layout_rules.specs.promise.Layout.{natural}
+use Rattle.layout_rules.specs.promise.Values.{each, row_items, rows_of, tree_items, value_at}
 use Rattle.arr_export.specs.ArrayTrees.{IsColumn}
 use Rattle.arr_import.specs.Window.{Window, child_window, item_at, items_of, whole}
 use Rattle.stream_face.specs.Lawful.{AreValues}

@@ -9,16 +9,16 @@ use Rattle.std.specs.Str.{bytes_eq}
 use Rattle.std.proofs.lemmas.Bool.{lt-ltb}
 use Rattle.data_types.specs.ColumnForms.{IsColumnKind}
 use Rattle.data_types.specs.FieldText.{IsValueOf}
-use Rattle.data_types.specs.Storage.{storage_of}
-use Rattle.data_types.specs.Value.{Value, Null, Truth, Whole, Bits, Bytes, Items, Fields, byte_total, bytes_of}
+use Rattle.data_types.specs.promise.Storage.{storage_of}
+use Rattle.data_types.specs.promise.Value.{Value, Null, Truth, Whole, Bits, Bytes, Items, Fields, byte_total, bytes_of}
 use Rattle.data_types.specs.declared.kind.DataType.{DataType}
 use Rattle.data_types.specs.declared.kind.DataType.TheVariants as kinds
 use Rattle.data_types.specs.declared.storage.Storage.{Storage}
 use Rattle.col_build.specs.Holding.{Adds, Holds, Takes as IsTaken}
 use Rattle.col_build.specs.declared.builder.Builder.{Builder}
-use Rattle.layout_rules.specs.Values.{each, value_at}
+use Rattle.layout_rules.specs.promise.Values.{each, value_at}
 use Rattle.arr_import.specs.Window.{Window, item_at, items_of}
-use Rattle.stage_model.specs.Dictionary.{has_bytes}
+use Rattle.stage_model.specs.promise.Dictionary.{has_bytes}
 use Rattle.stream_face.specs.Lawful.{HasBytes}
 use Rattle.column_fill.proofs.Counts.{length-each}
 use Rattle.column_fill.specs.Takes.{IsStored, Takes}

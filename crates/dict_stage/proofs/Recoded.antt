@@ -9,17 +9,21 @@ use Rattle.std.specs.Str.{bytes_eq}
 use Rattle.std.proofs.lemmas.Slice.Eq.{bytes_eq-Decides}
 use Rattle.data_types.specs.ColumnForms.{IsColumnKind}
 use Rattle.data_types.specs.FieldText.{IsValueOf}
-use Rattle.data_types.specs.Table.{Flat, Dict}
-use Rattle.data_types.specs.Value.{Value, Null, Truth, Whole, Bits, Bytes, Items, Fields, is_null}
+use Rattle.data_types.specs.promise.Table.{Flat, Dict}
+use Rattle.data_types.specs.promise.Value.{Value, Null, Truth, Whole, Bits, Bytes, Items, Fields, is_null}
 use Rattle.data_types.specs.declared.kind.DataType.{DataType}
-use Rattle.tree_model.specs.Tree.{maybe_tree}
-use Rattle.unit_pass.specs.Tally.{Tally, risen}
-use Rattle.raw_array.specs.Members.{ArrayTree, Cost, cost_of_maybe, holds_of}
-use Rattle.col_build.specs.Encoding.{Fits, encoded}
-use Rattle.col_build.specs.Finished.{blocks_of, present_count}
-use Rattle.arr_export.specs.ArrayTrees.{AreIndices, IsPlaceOf, column_tree, looked_up, made_buffers}
-use Rattle.stage_model.specs.Dictionary.{Dictionary, has_bytes}
-use Rattle.stage_model.specs.Traffic.{Made, flat_blocks, index_blocks, kind_blocks, row_blocks}
+use Rattle.tree_model.specs.promise.TreeData.{maybe_tree}
+use Rattle.unit_pass.specs.promise.Tally.{risen}
+use Rattle.unit_pass.specs.Tally.{Tally}
+use Rattle.raw_array.specs.promise.Members.{ArrayTree, Cost, holds_of}
+use Rattle.raw_array.specs.Members.{cost_of_maybe}
+use Rattle.col_build.specs.promise.Encoding.{encoded}
+use Rattle.col_build.specs.Encoding.{Fits}
+use Rattle.col_build.specs.promise.Finished.{blocks_of, present_count}
+use Rattle.arr_export.specs.promise.ArrayTrees.{column_tree, made_buffers}
+use Rattle.arr_export.specs.ArrayTrees.{AreIndices, IsPlaceOf, looked_up}
+use Rattle.stage_model.specs.promise.Dictionary.{Dictionary, has_bytes}
+use Rattle.stage_model.specs.promise.Traffic.{Made, flat_blocks, index_blocks, kind_blocks, row_blocks}
 use Rattle.stream_face.specs.Lawful.{AreValues, HasBytes}
 use Rattle.column_fill.proofs.ColumnBlocks.{blocks-are}
 use Rattle.column_fill.proofs.ColumnCosts.{few-blocks}

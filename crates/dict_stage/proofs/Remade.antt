@@ -5,26 +5,30 @@ use Rattle.std.proofs.Common.{None, Some, refl, sym, ap, subst, arith}
 use Rattle.std.proofs.lemmas.List.{drop-map, length-map, map-append, take-map}
 use Rattle.std.specs.List.{AllByRecursion}
 use Rattle.data_types.specs.ColumnForms.{AreColumnKinds}
-use Rattle.data_types.specs.Parts.{column_values, replaced}
-use Rattle.data_types.specs.Table.{Column, Flat, Dict, Row}
-use Rattle.data_types.specs.Value.{Value, Null}
+use Rattle.data_types.specs.promise.Parts.{column_values, replaced}
+use Rattle.data_types.specs.promise.Table.{Column, Flat, Dict, Row}
+use Rattle.data_types.specs.promise.Value.{Value, Null}
 use Rattle.data_types.specs.declared.kind.DataType.{DataType}
-use Rattle.tree_model.specs.Tree.{Depth, IsLive, Released, child_at, children_of, dictionary_at}
+use Rattle.tree_model.specs.promise.TreeParts.{IsLive, child_at, children_of}
+use Rattle.tree_model.specs.promise.TreeData.{Released}
+use Rattle.tree_model.specs.Tree.{Depth, dictionary_at}
 use Rattle.unit_pass.specs.declared.pass.TheConstants.{CHUNK}
-use Rattle.raw_array.specs.Members.{ArrayTree, Cost, members_of}
+use Rattle.raw_array.specs.promise.Members.{ArrayTree, Cost, members_of}
 use Rattle.col_build.specs.Encoding.{Fits}
-use Rattle.data_types.specs.ColumnKinds.{table_type, type_of_column, type_of_columns, type_of_kind, types_of_columns}
-use Rattle.schema_check.specs.ColumnSchema.{SchemaOf}
-use Rattle.data_types.specs.KindTrees.{KindTree}
-use Rattle.schema_check.specs.Schemas.{TypedOf}
-use Rattle.raw_schema.specs.Members.{Nodes}
-use Rattle.layout_rules.specs.Values.{rows_of, tree_items, values_of}
-use Rattle.layout_rules.specs.Walk.{ChunkOk, LayoutOk}
-use Rattle.arr_export.specs.ArrayTrees.{AreIndices, column_tree, flat_type, looked_up}
+use Rattle.data_types.specs.promise.ColumnKinds.{table_type, type_of_column, type_of_columns, type_of_kind, types_of_columns}
+use Rattle.schema_check.specs.promise.ColumnSchema.{SchemaOf}
+use Rattle.data_types.specs.promise.KindTrees.{KindTree}
+use Rattle.schema_check.specs.promise.Schemas.{TypedOf}
+use Rattle.tree_model.specs.promise.TreeCost.{Nodes}
+use Rattle.layout_rules.specs.promise.Values.{rows_of, tree_items, values_of}
+use Rattle.layout_rules.specs.promise.Walk.{ChunkOk, LayoutOk}
+use Rattle.arr_export.specs.promise.ArrayTrees.{column_tree}
+use Rattle.arr_export.specs.ArrayTrees.{AreIndices, flat_type, looked_up}
 use Rattle.array_laws.specs.Picking.{AreLive, Replaced, cut_children}
 use Rattle.stages.specs.Structs.{column_structs, structs}
-use Rattle.stage_model.specs.Dictionary.{Dictionary}
-use Rattle.stage_model.specs.Typing.{column, column_at, no_column}
+use Rattle.stage_model.specs.promise.Dictionary.{Dictionary}
+use Rattle.stage_model.specs.promise.Typing.{column, no_column}
+use Rattle.stage_model.specs.Typing.{column_at}
 use Rattle.stream_face.specs.Lawful.{AreItems, AreValues, DictsAreFull, DictsHaveBytes, HasBytes, IsChunkOf, IsTable, LawfulColumns, column_leaves, leaves}
 use Rattle.column_fill.proofs.ValuesTaken.{values-fit}
 use Rattle.stages.proofs.CutColumns.{dicts-window}

@@ -4,15 +4,18 @@ use Rattle.std.proofs.Common.{ℤ, pos, negsuc, List, [], ◌∷◌, ◌++◌, l
 use Rattle.std.proofs.Common.{refl, sym, ap, subst, append_assoc}
 use Rattle.std.proofs.lemmas.Int.{ints}
 use Rattle.std.proofs.lemmas.List.{get_or-map, length-map, length-drop, take-map, take_rest, drop-drop, drop-map}
-use Rattle.data_types.specs.Parts.{replaced}
-use Rattle.tree_model.specs.Tree.{Depth, Released, Live, absent, children_of, child_at, trees}
+use Rattle.data_types.specs.promise.Parts.{replaced}
+use Rattle.tree_model.specs.promise.TreeData.{Released, Live, absent, trees}
+use Rattle.tree_model.specs.promise.TreeParts.{children_of, child_at}
+use Rattle.tree_model.specs.Tree.{Depth}
 use Rattle.tree_model.proofs.Lists.{tree_list-trees}
-use Rattle.raw_array.specs.Members.{ArrayTree, members_of}
+use Rattle.raw_array.specs.promise.Members.{ArrayTree, members_of}
 use Rattle.raw_array.specs.Windows.{Window}
 use Rattle.raw_array.proofs.Windows.{Depth-Window}
-use Rattle.layout_rules.specs.Layout.{end, first, natural}
-use Rattle.layout_rules.specs.Values.{tree_items}
-use Rattle.arr_export.specs.ArrayTrees.{IsColumn, table_tree}
+use Rattle.layout_rules.specs.promise.Layout.{end, first, natural}
+use Rattle.layout_rules.specs.promise.Values.{tree_items}
+use Rattle.arr_export.specs.promise.ArrayTrees.{table_tree}
+use Rattle.arr_export.specs.ArrayTrees.{IsColumn}
 use Rattle.arr_move.proofs.Filled.{Depth-child_at}
 use Rattle.arr_move.specs.TreeActs.{struct_members}
 use Rattle.array_laws.specs.Picking.{Replaced, cut_children}

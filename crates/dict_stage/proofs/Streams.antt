@@ -7,26 +7,29 @@ use Rattle.std.proofs.Math.Logic.{∥∥₁_elim}
 use Rattle.std.proofs.Props.{props}
 use Rattle.data_types.specs.ColumnForms.{AreColumnKinds}
 use Rattle.data_types.specs.ColumnView.{column_of}
-use Rattle.data_types.specs.Parts.{column_values}
-use Rattle.data_types.specs.Table.{Column, Row, Kind, Flat}
+use Rattle.data_types.specs.promise.Parts.{column_values}
+use Rattle.data_types.specs.promise.Table.{Column, Row, Kind, Flat}
 use Rattle.data_types.specs.declared.kind.ColumnType.{ColumnType}
 use Rattle.data_types.specs.declared.kind.DataType.{DataType}
 use Rattle.data_types.specs.declared.kind.DataType.TheVariants as kinds
 use Rattle.data_types.specs.declared.row_fault.RowFault.{RowFault}
-use Rattle.tree_model.specs.Tree.{Depth, IsLive, child_at}
-use Rattle.unit_pass.specs.Tally.{Tally, risen}
+use Rattle.tree_model.specs.promise.TreeParts.{IsLive, child_at}
+use Rattle.tree_model.specs.Tree.{Depth}
+use Rattle.unit_pass.specs.promise.Tally.{risen}
+use Rattle.unit_pass.specs.Tally.{Tally}
 use Rattle.unit_pass.specs.declared.pass.TheConstants.{CHUNK}
-use Rattle.raw_array.specs.Members.{ArrayTree}
-use Rattle.raw_schema.specs.Members.{Nodes}
-use Rattle.data_types.specs.ColumnKinds.{type_of_columns}
-use Rattle.schema_check.specs.ColumnSchema.{SchemaOf}
-use Rattle.data_types.specs.KindTrees.{KindTree}
-use Rattle.schema_check.specs.Schemas.{TypedOf}
-use Rattle.layout_rules.specs.Values.{rows_of}
+use Rattle.raw_array.specs.promise.Members.{ArrayTree}
+use Rattle.tree_model.specs.promise.TreeCost.{Nodes}
+use Rattle.data_types.specs.promise.ColumnKinds.{type_of_columns}
+use Rattle.schema_check.specs.promise.ColumnSchema.{SchemaOf}
+use Rattle.data_types.specs.promise.KindTrees.{KindTree}
+use Rattle.schema_check.specs.promise.Schemas.{TypedOf}
+use Rattle.layout_rules.specs.promise.Values.{rows_of}
 use Rattle.array_laws.specs.Picking.{Replaced}
-use Rattle.stage_model.specs.Stages.{chunks_after}
-use Rattle.stage_model.specs.Traffic.{Made, column_blocks, kind_blocks, kind_nodes, made_blocks, made_nodes}
-use Rattle.stage_model.specs.Typing.{column_at, is_bytes, is_struct, no_column}
+use Rattle.stage_model.specs.promise.Stages.{chunks_after}
+use Rattle.stage_model.specs.promise.Traffic.{Made, column_blocks, kind_blocks, kind_nodes, made_blocks, made_nodes}
+use Rattle.stage_model.specs.promise.Typing.{is_bytes, is_struct, no_column}
+use Rattle.stage_model.specs.Typing.{column_at}
 use Rattle.stream_face.specs.Lawful.{DictsHaveBytes, HasBytes, IsChunkOf, IsTable, LawfulColumns, LawfulTables}
 use Rattle.stages.specs.Steps.{GivesOut, IsNext}
 use Rattle.stages.proofs.CodedColumns.{coded_columns, coded_kind}

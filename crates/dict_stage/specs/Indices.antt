@@ -2,15 +2,16 @@
 use Rattle.std.specs.Prelude.{◌≡◌, ℕ, pos, Bool, true, false, List, [], map, get_or, None, Some}
 use Rattle.std.specs.List.{position_or_len}
 use Rattle.std.specs.Str.{bytes_eq}
-use Rattle.data_types.specs.Parts.{column_values}
-use Rattle.data_types.specs.Table.{Column, Row, Kind, Flat, Dict, Columns}
-use Rattle.data_types.specs.Value.{Value, Null, Whole, Bytes}
+use Rattle.data_types.specs.promise.Parts.{column_values}
+use Rattle.data_types.specs.promise.Table.{Column, Row, Kind, Flat, Dict, Columns}
+use Rattle.data_types.specs.promise.Value.{Value, Null, Whole, Bytes}
 use Rattle.data_types.specs.declared.kind.DataType.{DataType}
 use Rattle.data_types.specs.declared.kind.DataType.TheVariants as kinds
-use Rattle.tree_model.specs.Tree.{Released, child_at}
-use Rattle.raw_array.specs.Members.{ArrayTree}
-use Rattle.arr_export.specs.ArrayTrees.{column_tree}
-use Rattle.stage_model.specs.Dictionary.{Dictionary}
+use Rattle.tree_model.specs.promise.TreeData.{Released}
+use Rattle.tree_model.specs.promise.TreeParts.{child_at}
+use Rattle.raw_array.specs.promise.Members.{ArrayTree}
+use Rattle.arr_export.specs.promise.ArrayTrees.{column_tree}
+use Rattle.stage_model.specs.promise.Dictionary.{Dictionary}
 use Rattle.stage_model.specs.Typing.{column_at}
 
 -- the value is this text

@@ -2,21 +2,23 @@
 use Rattle.std.specs.Prelude.{◌≡◌, ℕ, ◌+◌, ◌^◌, ◌<◌, ◌≤◌, Bool, true, false, not, List, length, map}
 use Rattle.data_types.specs.ColumnForms.{IsColumnKind}
 use Rattle.data_types.specs.ColumnView.{column_of}
-use Rattle.data_types.specs.Parts.{column_values, replaced}
-use Rattle.data_types.specs.Table.{Column, Kind, Flat, Dict, Columns}
+use Rattle.data_types.specs.promise.Parts.{column_values, replaced}
+use Rattle.data_types.specs.promise.Table.{Column, Kind, Flat, Dict, Columns}
 use Rattle.data_types.specs.declared.kind.ColumnType.{ColumnType}
 use Rattle.data_types.specs.declared.kind.DataType.{DataType}
 use Rattle.data_types.specs.declared.kind.DataType.TheVariants as kinds
-use Rattle.data_types.specs.Value.{Value}
-use Rattle.unit_pass.specs.Tally.{Tally, risen}
-use Rattle.raw_array.specs.Members.{ArrayTree, Cost}
-use Rattle.data_types.specs.ColumnKinds.{type_of_columns}
-use Rattle.data_types.specs.KindTrees.{KindTree}
-use Rattle.layout_rules.specs.Values.{rows_of}
-use Rattle.layout_rules.specs.Walk.{ChunkOk}
+use Rattle.data_types.specs.promise.Value.{Value}
+use Rattle.unit_pass.specs.promise.Tally.{risen}
+use Rattle.unit_pass.specs.Tally.{Tally}
+use Rattle.raw_array.specs.promise.Members.{ArrayTree, Cost}
+use Rattle.data_types.specs.promise.ColumnKinds.{type_of_columns}
+use Rattle.data_types.specs.promise.KindTrees.{KindTree}
+use Rattle.layout_rules.specs.promise.Values.{rows_of}
+use Rattle.layout_rules.specs.promise.Walk.{ChunkOk}
 use Rattle.stages.specs.Structs.{column_structs, most_structs}
-use Rattle.stage_model.specs.Traffic.{Made, kind_blocks, kind_nodes}
-use Rattle.stage_model.specs.Typing.{column, column_at, is_bytes}
+use Rattle.stage_model.specs.promise.Traffic.{Made, kind_blocks, kind_nodes}
+use Rattle.stage_model.specs.promise.Typing.{column, is_bytes}
+use Rattle.stage_model.specs.Typing.{column_at}
 use Rattle.stage_model.specs.declared.stage.Step.{Step}
 use Rattle.stage_model.specs.declared.stage.Step.TheVariants as steps
 use Rattle.stream_face.specs.Lawful.{AreValues, HasBytes}

@@ -1,7 +1,7 @@
 -- Distinct texts, numbered in the order in which they come.
 use Rattle.std.specs.Prelude.{ℕ, ◌^◌, ◌≤◌, pos, List, [], ◌∷◌, map}
 use Rattle.data_types.specs.ColumnForms.{IsColumnKind}
-use Rattle.data_types.specs.Value.{Value, Null, Whole, Bytes}
+use Rattle.data_types.specs.promise.Value.{Value, Null, Whole, Bytes}
 use Rattle.data_types.specs.declared.kind.DataType.{DataType}
 use Rattle.col_build.specs.Holding.{Holds}
 use Rattle.arr_import.specs.Window.{Window, items_of}

@@ -1,17 +1,18 @@
 //! The chunk with a column made anew.
 ghost use Rattle.std.specs.Prelude.{◌≡◌, ◌+◌, ◌<◌, ◌≤◌, false, length, map, IfOk, MatchResult, OnErr};
 ghost use Rattle.data_types.specs.ColumnView.{column_of};
-ghost use Rattle.data_types.specs.Parts.{column_values};
-ghost use Rattle.unit_pass.specs.Tally.{risen};
+ghost use Rattle.data_types.specs.promise.Parts.{column_values};
+ghost use Rattle.unit_pass.specs.promise.Tally.{risen};
 ghost use Rattle.unit_pass.specs.declared.pass.TheConstants.{SUPPLY};
-ghost use Rattle.tree_model.specs.Tree.{child_at};
-ghost use Rattle.raw_array.specs.Members.{Cost};
+ghost use Rattle.tree_model.specs.promise.TreeParts.{child_at};
+ghost use Rattle.raw_array.specs.promise.Members.{Cost};
 ghost use Rattle.data_types.specs.KindTrees.{TypedOk};
-ghost use Rattle.data_types.specs.TypedView.{typed_of};
-ghost use Rattle.layout_rules.specs.Values.{rows_of};
+ghost use Rattle.data_types.specs.promise.TypedView.{typed_of};
+ghost use Rattle.layout_rules.specs.promise.Values.{rows_of};
 ghost use Rattle.array_laws.specs.Picking.{Replaced};
-ghost use Rattle.stage_model.specs.Traffic.{Made, kind_blocks, kind_nodes};
-ghost use Rattle.stage_model.specs.Typing.{column_at, is_struct};
+ghost use Rattle.stage_model.specs.promise.Traffic.{Made, kind_blocks, kind_nodes};
+ghost use Rattle.stage_model.specs.promise.Typing.{is_struct};
+ghost use Rattle.stage_model.specs.Typing.{column_at};
 ghost use Rattle.dict_stage.specs.Indices.{recoded_tree};
 ghost use Rattle.dict_stage.specs.Recoded.{CanRecodeChunk, IsRecoded, text_kind, type_in};
 

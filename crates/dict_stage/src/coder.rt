@@ -1,12 +1,12 @@
 //! A dictionary in the making, and the indices of values into it.
 ghost use Rattle.std.specs.Prelude.{◌≡◌, ◌<◌, ◌-◌, ◌^◌, ℕ, List, [], ◌∷◌, length, IfOk, OnOk};
-ghost use Rattle.data_types.specs.Value.{Bytes};
+ghost use Rattle.data_types.specs.promise.Value.{Bytes};
 ghost use Rattle.data_types.specs.declared.kind.DataType.{DataType as AType};
 ghost use Rattle.col_build.specs.Holding.{Adds, Holds, HoldsWholes, Takes};
 ghost use Rattle.col_build.specs.Items.{value_of};
 ghost use Rattle.arr_import.specs.Cols.{window_of};
 ghost use Rattle.arr_import.specs.Window.{items_of};
-ghost use Rattle.stage_model.specs.Dictionary.{Dictionary};
+ghost use Rattle.stage_model.specs.promise.Dictionary.{Dictionary};
 ghost use Rattle.dict_stage.specs.Indices.{Indices, index_type};
 ghost use Rattle.dict_stage.specs.Texts.{Codes, HasTexts, IsText, index_by, texts_after};
 

@@ -1,6 +1,6 @@
 //! A column that is made anew: of its values as they are, or of their indices into a dictionary.
 ghost use Rattle.std.specs.Prelude.{◌≡◌, ◌+◌, ◌≤◌, IfOk, OnErr};
-ghost use Rattle.data_types.specs.Table.{Flat, Dict};
+ghost use Rattle.data_types.specs.promise.Table.{Flat, Dict};
 ghost use Rattle.unit_pass.specs.declared.pass.TheConstants.{SUPPLY};
 ghost use Rattle.col_build.specs.Holding.{Holds};
 ghost use Rattle.arr_import.specs.Cols.{window_of};

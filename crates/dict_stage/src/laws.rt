@@ -1,16 +1,16 @@
 //! What the columns and the chunks that are made anew mean.
 ghost use Rattle.std.specs.Prelude.{◌≡◌, ◌≢◌, ◌^◌, ◌≤◌, ◌<◌, ℕ, Bool, List, length, All};
-ghost use Rattle.data_types.specs.Parts.{column_values};
-ghost use Rattle.data_types.specs.Table.{Column, Flat, Dict, Row};
-ghost use Rattle.data_types.specs.Value.{Value, Null};
+ghost use Rattle.data_types.specs.promise.Parts.{column_values};
+ghost use Rattle.data_types.specs.promise.Table.{Column, Flat, Dict, Row};
+ghost use Rattle.data_types.specs.promise.Value.{Value, Null};
 ghost use Rattle.data_types.specs.declared.kind.DataType.{DataType as AType};
 ghost use Rattle.tree_model.specs.Tree.{dictionary_at};
-ghost use Rattle.raw_array.specs.Members.{ArrayTree};
-ghost use Rattle.data_types.specs.ColumnKinds.{type_of_kind};
-ghost use Rattle.layout_rules.specs.Values.{values_of};
-ghost use Rattle.layout_rules.specs.Walk.{LayoutOk};
+ghost use Rattle.raw_array.specs.promise.Members.{ArrayTree};
+ghost use Rattle.data_types.specs.promise.ColumnKinds.{type_of_kind};
+ghost use Rattle.layout_rules.specs.promise.Values.{values_of};
+ghost use Rattle.layout_rules.specs.promise.Walk.{LayoutOk};
 ghost use Rattle.array_laws.specs.Picking.{Replaced};
-ghost use Rattle.stage_model.specs.Dictionary.{Dictionary};
+ghost use Rattle.stage_model.specs.promise.Dictionary.{Dictionary};
 ghost use Rattle.stream_face.specs.Lawful.{IsChunkOf, IsTable, LawfulColumns};
 ghost use Rattle.dict_stage.specs.Indices.{recoded_tree};
 ghost use Rattle.dict_stage.specs.Recoded.{Recodes, TextsOf, recoded_columns, text_kind};

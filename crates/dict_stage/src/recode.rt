@@ -1,9 +1,9 @@
 //! The step that makes a column anew: with a dictionary, or without.
 ghost use Rattle.std.specs.Prelude.{◌≡◌, ◌∷◌, [], Some, map};
 ghost use Rattle.data_types.specs.ColumnView.{column_of};
-ghost use Rattle.stage_model.specs.Traffic.{made_blocks, made_nodes};
+ghost use Rattle.stage_model.specs.promise.Traffic.{made_blocks, made_nodes};
 ghost use Rattle.stages.specs.Steps.{always, any_tables};
-ghost use Rattle.stage_model.specs.Stages.{chunks_after};
+ghost use Rattle.stage_model.specs.promise.Stages.{chunks_after};
 ghost use Rattle.dict_stage.specs.Indices.{HasColumn};
 ghost use Rattle.dict_stage.specs.Recoded.{RecodeFits, recode_step};
 

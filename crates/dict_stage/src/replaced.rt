@@ -1,15 +1,18 @@
 //! A chunk with another column in the place of one, by moves.
 ghost use Rattle.std.specs.Prelude.{◌≡◌, ◌≤◌, ◌<◌, ◌+◌, ◌^◌, ◌≤ℤ◌, ◌-◌, ℕ, [], All, pos, length, vec_capacity, IfOk, MatchResult};
-ghost use Rattle.tree_model.specs.Tree.{Depth, child_at, children_of, trees};
-ghost use Rattle.raw_array.specs.Members.{ArrayTree, Cost, cost_of_all, members_of};
-ghost use Rattle.unit_pass.specs.Tally.{risen};
+ghost use Rattle.tree_model.specs.promise.TreeParts.{child_at, children_of};
+ghost use Rattle.tree_model.specs.promise.TreeData.{trees};
+ghost use Rattle.tree_model.specs.Tree.{Depth};
+ghost use Rattle.raw_array.specs.promise.Members.{ArrayTree, Cost, members_of};
+ghost use Rattle.raw_array.specs.Members.{cost_of_all};
+ghost use Rattle.unit_pass.specs.promise.Tally.{risen};
 ghost use Rattle.unit_pass.specs.declared.pass.TheConstants.{SUPPLY};
-ghost use Rattle.layout_rules.specs.Layout.{natural};
+ghost use Rattle.layout_rules.specs.promise.Layout.{natural};
 ghost use Rattle.arr_export.specs.ArrayTrees.{IsColumn};
 ghost use Rattle.array_laws.specs.Picking.{Replaced};
 ghost use Rattle.stages.specs.Children.{ShowsChildren};
 ghost use Rattle.dict_stage.specs.Recoded.{HasPlace};
-ghost use Rattle.layout_rules.specs.Rules.{window_limit};
+ghost use Rattle.layout_rules.specs.promise.Rules.{window_limit};
 
 use arr_export::export_table;
 use arr_move::{count_children, move_children};

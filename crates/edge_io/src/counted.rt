@@ -1,6 +1,6 @@
 //! A source of very many bytes that keeps none.
 ghost use Rattle.std.specs.Prelude.{◌≡◌, ◌<◌, ◌≤◌, Some, false, length, min};
-ghost use Rattle.edge_io.specs.Edge.{GivesFirst, GivesWithin};
+ghost use Rattle.edge_io.specs.promise.Edge.{GivesFirst, GivesWithin};
 ghost use Rattle.edge_io.specs.Memory.{count_left, letters, read_answer};
 
 use crate::{Got, Source};

@@ -1,7 +1,8 @@
 //! Sources and sinks of bytes, seen by what they have left, what they took and how often they failed.
 ghost use Rattle.std.specs.Prelude.{◌≡◌, ◌<◌, ◌≤◌, ◌+◌, ◌-◌, ◌^◌, ℕ, List, Option, IfOk, IfErr, OnOk, OnErr, length, take, vec_len};
 ghost use Rattle.std.specs.Io.KnownBytes.{Appends, Consumes, IsAtEnd};
-ghost use Rattle.edge_io.specs.Edge.{GivesFirst, GivesWithin, ReadFailsFor, Rose, TakesFirst, TakesWithin, WriteFailsFor, taken_by};
+ghost use Rattle.edge_io.specs.promise.Edge.{GivesFirst, GivesWithin, ReadFailsFor, Rose, TakesFirst, TakesWithin, WriteFailsFor};
+ghost use Rattle.edge_io.specs.Edge.{taken_by};
 
 /// What one read gave.
 #[derive(Clone, Copy, PartialEq, Eq, Debug)]

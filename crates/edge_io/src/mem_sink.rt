@@ -1,6 +1,6 @@
 //! A sink in memory, which states its bytes and fails where it is asked to.
 ghost use Rattle.std.specs.Prelude.{◌≡◌, ◌<◌, ◌≤◌, [], IfOk, Some, false, length, min};
-ghost use Rattle.edge_io.specs.Edge.{TakesFirst, TakesWithin, WriteFailsFor};
+ghost use Rattle.edge_io.specs.promise.Edge.{TakesFirst, TakesWithin, WriteFailsFor};
 ghost use Rattle.edge_io.specs.Memory.{WroteOnce, bytes_taken, failing_writes, is_failing, most_taken, next_call, room_left, write_answer, writes_failed};
 ghost use Rattle.edge_io.specs.Memory.{writes_made};
 

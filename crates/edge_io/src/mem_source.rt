@@ -1,6 +1,6 @@
 //! A source in memory, which states its bytes and fails where it is asked to.
 ghost use Rattle.std.specs.Prelude.{◌≡◌, ◌<◌, ◌≤◌, Some, drop, length, min};
-ghost use Rattle.edge_io.specs.Edge.{GivesFirst, GivesWithin, ReadFailsFor};
+ghost use Rattle.edge_io.specs.promise.Edge.{GivesFirst, GivesWithin, ReadFailsFor};
 ghost use Rattle.edge_io.specs.Memory.{ReadOnce, bytes_left, failing_reads, is_failing, most_given, next_call, read_answer, reads_failed, reads_made};
 
 use crate::memory::MemSource;

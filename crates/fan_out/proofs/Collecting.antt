@@ -9,11 +9,11 @@ use Rattle.std.specs.Prelude.{if◌then◌else◌, IfSome, IfOk, Result}
 use mathlib.Core.Logic.{dite}
 use native.Mathlib.Decide.{ℕ_discrete}
 use Rattle.unit_pass.specs.declared.NoMemory.{NoMemory}
-use Rattle.data_types.specs.Table.{Row}
-use Rattle.tree_model.specs.Tree.{Released}
-use Rattle.raw_array.specs.Members.{ArrayTree, Cost}
-use Rattle.data_types.specs.KindTrees.{KindTree}
-use Rattle.layout_rules.specs.Values.{rows_of}
+use Rattle.data_types.specs.promise.Table.{Row}
+use Rattle.tree_model.specs.promise.TreeData.{Released}
+use Rattle.raw_array.specs.promise.Members.{ArrayTree, Cost}
+use Rattle.data_types.specs.promise.KindTrees.{KindTree}
+use Rattle.layout_rules.specs.promise.Values.{rows_of}
 use Rattle.fan_out.specs.declared.piece.Piece.{Piece}
 use Rattle.fan_out.specs.Pieces.{GivesPiece, GivesPieces, ReadsPieces}
 use Rattle.fan_out.specs.Workers.{IsReady, IsUnspent, IsDone, IsReleased, SameTrees, Collected}

@@ -1,3 +1,3 @@
-pub mod Counts
+pub mod promise
 pub mod Pieces
 pub mod Workers

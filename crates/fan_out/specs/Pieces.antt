@@ -1,10 +1,11 @@
 -- The answers of a job on the pieces of a chunk.
 use Rattle.std.specs.Prelude.{◌<◌, slice_index_or, ◌≡◌, ℕ, ℤ, pos, ◌+◌, ◌/◌, ◌==◌, if◌then◌else◌, min, max, List, length}
-use Rattle.data_types.specs.Table.{Row}
-use Rattle.raw_array.specs.Members.{ArrayTree, Cost, LoweredBy, ShareOf}
-use Rattle.data_types.specs.KindTrees.{KindTree}
-use Rattle.layout_rules.specs.Values.{rows_of}
-use Rattle.layout_rules.specs.Walk.{ChunkOk}
+use Rattle.data_types.specs.promise.Table.{Row}
+use Rattle.raw_array.specs.promise.Members.{ArrayTree, Cost}
+use Rattle.raw_array.specs.Members.{LoweredBy, ShareOf}
+use Rattle.data_types.specs.promise.KindTrees.{KindTree}
+use Rattle.layout_rules.specs.promise.Values.{rows_of}
+use Rattle.layout_rules.specs.promise.Walk.{ChunkOk}
 use Rattle.array_laws.specs.Pieces.{border}
 
 -- an answer that a job may give (from, to, answer) on piece w of this many rows, cut for this many workers

@@ -2,12 +2,12 @@
 use Rattle.std.specs.Prelude.{◌<◌, ◌≤◌, ◌≡◌, ℕ, ℤ, ◌+◌, ◌==◌, if◌then◌else◌, List, length, slice_index_or}
 use Rattle.std.specs.Prelude.{Some, Ok, IfOk, IfSome, IsSome}
 use Rattle.unit_pass.specs.declared.pass.TheConstants.{SUPPLY}
-use Rattle.data_types.specs.Table.{Row}
-use Rattle.tree_model.specs.Tree.{Released}
-use Rattle.raw_array.specs.Members.{ArrayTree, Cost}
-use Rattle.data_types.specs.KindTrees.{KindTree}
-use Rattle.layout_rules.specs.Values.{rows_of}
-use Rattle.layout_rules.specs.Walk.{ChunkOk}
+use Rattle.data_types.specs.promise.Table.{Row}
+use Rattle.tree_model.specs.promise.TreeData.{Released}
+use Rattle.raw_array.specs.promise.Members.{ArrayTree, Cost}
+use Rattle.data_types.specs.promise.KindTrees.{KindTree}
+use Rattle.layout_rules.specs.promise.Values.{rows_of}
+use Rattle.layout_rules.specs.promise.Walk.{ChunkOk}
 use Rattle.fan_out.specs.Pieces.{GivesPiece, IsChunk}
 use Rattle.fan_out.specs.declared.piece.Piece.{Piece}
 

@@ -1,12 +1,12 @@
 //! One worker's piece.
 ghost use Rattle.std.specs.Prelude.{◌≡◌, ℕ, pos, ◌+◌, ◌<◌, ◌≤◌, ◌≤ℤ◌, length, IfOk};
 ghost use Rattle.data_types.specs.KindTrees.{TypedOk};
-ghost use Rattle.layout_rules.specs.Layout.{natural};
-ghost use Rattle.data_types.specs.TypedView.{typed_of};
-ghost use Rattle.layout_rules.specs.Values.{rows_of};
-ghost use Rattle.layout_rules.specs.Walk.{ChunkOk};
+ghost use Rattle.layout_rules.specs.promise.Layout.{natural};
+ghost use Rattle.data_types.specs.promise.TypedView.{typed_of};
+ghost use Rattle.layout_rules.specs.promise.Values.{rows_of};
+ghost use Rattle.layout_rules.specs.promise.Walk.{ChunkOk};
 ghost use Rattle.array_laws.specs.Pieces.{border};
-ghost use Rattle.fan_out.specs.Counts.{most_workers};
+ghost use Rattle.fan_out.specs.promise.Counts.{most_workers};
 ghost use Rattle.fan_out.specs.Pieces.{GivesPiece};
 ghost use Rattle.fan_out.specs.Workers.{CanRun, IsDone};
 

@@ -3,11 +3,12 @@
 ghost use Rattle.std.specs.Prelude.{◌≡◌, ℕ, ◌+◌, ◌-◌, ◌*◌, ◌<◌, ◌≤◌, length, slice_index_or, IfOk, OnOk, OnErr, All, vec_len};
 ghost use Rattle.std.specs.List.{AllWithin};
 ghost use Rattle.unit_pass.specs.declared.pass.TheConstants.{SUPPLY};
-ghost use Rattle.tree_model.specs.Tree.{Released};
-ghost use Rattle.raw_array.specs.Members.{Cost, LeastAmount, Like, LoweredBy};
-ghost use Rattle.data_types.specs.TypedView.{typed_of};
-ghost use Rattle.layout_rules.specs.Values.{rows_of};
-ghost use Rattle.layout_rules.specs.Walk.{ChunkOk};
+ghost use Rattle.tree_model.specs.promise.TreeData.{Released};
+ghost use Rattle.raw_array.specs.promise.Members.{Cost};
+ghost use Rattle.raw_array.specs.Members.{LeastAmount, Like, LoweredBy};
+ghost use Rattle.data_types.specs.promise.TypedView.{typed_of};
+ghost use Rattle.layout_rules.specs.promise.Values.{rows_of};
+ghost use Rattle.layout_rules.specs.promise.Walk.{ChunkOk};
 ghost use Rattle.fan_out.specs.Pieces.{lent};
 ghost use Rattle.fan_out.specs.Workers.{Collected, IsReady, IsReleased, IsUnspent, SameTrees};
 ghost use Rattle.fan_out.specs.declared.piece.Piece.{Piece};

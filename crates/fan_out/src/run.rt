@@ -3,8 +3,8 @@ ghost use Rattle.std.specs.Prelude.{◌≡◌, ℕ, ◌+◌, ◌-◌, ◌*◌, �
 ghost use Rattle.std.specs.List.{AllWithin};
 ghost use Rattle.unit_pass.specs.declared.pass.TheConstants.{SUPPLY};
 ghost use Rattle.data_types.specs.KindTrees.{TypedOk};
-ghost use Rattle.data_types.specs.TypedView.{typed_of};
-ghost use Rattle.fan_out.specs.Counts.{most_workers};
+ghost use Rattle.data_types.specs.promise.TypedView.{typed_of};
+ghost use Rattle.fan_out.specs.promise.Counts.{most_workers};
 ghost use Rattle.fan_out.specs.Pieces.{GivesPieces, ReadsPieces};
 ghost use Rattle.fan_out.specs.Workers.{CanRun, IsDone, IsReady, IsReleased, IsUnspent};
 ghost use Rattle.fan_out.specs.declared.piece.Piece.{Piece};

@@ -1,6 +1,6 @@
 //! How many workers there are.
 ghost use Rattle.std.specs.Prelude.{◌≤◌};
-ghost use Rattle.fan_out.specs.Counts.{most_workers};
+ghost use Rattle.fan_out.specs.promise.Counts.{most_workers};
 
 /// How many workers share the rows of a chunk: 1 to 64.
 #[derive(Clone, Copy)]

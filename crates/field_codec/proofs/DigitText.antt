@@ -7,7 +7,7 @@ use Rattle.std.proofs.lemmas.Fmt.{decimal_digit, length-decimal-le}
 use Rattle.std.proofs.lemmas.List.{append-nil, drop-set, drop_all}
 use Rattle.std.proofs.lemmas.Nat.{div-add-mod', mod-mul-add}
 use Rattle.std.proofs.Math.Nat.{mod-lt, pow-le-pow_right, pow-succ', pow-zero}
-use Rattle.data_types.specs.FieldText.{last_digits, point_text}
+use Rattle.data_types.specs.promise.FieldText.{last_digits, point_text}
 use Rattle.field_codec.proofs.PointText.{length-last_digits, steps}
 
 -- ---- sizes

@@ -4,7 +4,7 @@ use Rattle.std.proofs.Common.{◌∙◌, append_assoc, arith, length-append, len
 use Rattle.std.specs.Fmt.{decimal}
 use Rattle.std.proofs.lemmas.List.{append-nil, drop-append-le, drop-drop, drop-take, drop_all, drop_at, drop_more}
 use Rattle.std.proofs.lemmas.List.{length-set, length-take-le, set-append_right, set_at, take_at}
-use Rattle.data_types.specs.FieldText.{last_digits, point_text}
+use Rattle.data_types.specs.promise.FieldText.{last_digits, point_text}
 use Rattle.field_codec.proofs.DigitText.{behind_byte, wide}
 use Rattle.field_codec.proofs.PointText.{length-last_digits, point_is, split_digits}
 

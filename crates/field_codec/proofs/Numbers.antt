@@ -8,7 +8,7 @@ use Rattle.std.specs.Str.Parse.{digits_value}
 use Rattle.std.specs.Str.{all_ascii_digits}
 use Rattle.std.proofs.lemmas.Bool.{and_parts, leb-true, cases_Bool, false≢true, lt-ltb, cases_lt}
 use Rattle.std.proofs.lemmas.List.{take-take, take_all}
-use Rattle.data_types.specs.FieldText.{is_numeral}
+use Rattle.data_types.specs.promise.FieldText.{is_numeral}
 use Rattle.std.proofs.lemmas.Str.{digit_value_digit}
 use Rattle.std.proofs.lemmas.Int.Digits.{digits_value_more}
 use Rattle.std.proofs.lemmas.List.Sums.{prefix_len_is, prefix_len-le-length, prefix_len_stops}

@@ -14,7 +14,7 @@ use Rattle.std.proofs.lemmas.List.Sums.{prefix_len_is, prefix_len_passes}
 use Rattle.std.proofs.lemmas.Nat.{le_or_l, le_or_r, or_lt, pow-add}
 use Rattle.std.proofs.Math.Bool.{and-false}
 use Rattle.std.proofs.Math.Nat.{pow-succ', mul-le-mul_left, mul-le-mul_right}
-use Rattle.data_types.specs.FieldText.{is_numeral, fraction_of, unscaled, read_unscaled}
+use Rattle.data_types.specs.promise.FieldText.{is_numeral, fraction_of, unscaled, read_unscaled}
 use Rattle.field_codec.proofs.Numbers.{all_front, digit_is, few_digits, part_digits}
 use Rattle.field_codec.proofs.Unscaled.{after_append, read_none, read_some, shifted_below}
 use borrow.Author.Count.{below_more}

@@ -8,7 +8,7 @@ use Rattle.std.proofs.lemmas.Fmt.{decimal_digit, decimal_step_wide, decimal_is_I
 use Rattle.std.proofs.lemmas.Int.Digits.{digits_value-lt}
 use Rattle.std.proofs.lemmas.List.{append-nil, take_at, drop_at}
 use Rattle.std.proofs.Math.Nat.{pow-succ', pow-zero, pow-le-pow_right, div-div-eq-div-mul}
-use Rattle.data_types.specs.FieldText.{last_digits, point_text}
+use Rattle.data_types.specs.promise.FieldText.{last_digits, point_text}
 
 -- ---- the digits of a number
 glyph_is : (d : ℕ) → d < 10 → digit_glyph false d ≡ 48 + d

@@ -13,8 +13,8 @@ use Rattle.std.proofs.lemmas.List.Sums.{prefix_len-le-length}
 use Rattle.std.proofs.lemmas.Nat.{pow-add}
 use Rattle.std.proofs.lemmas.Str.Parse.{digits_value-take-le}
 use Rattle.std.proofs.Math.Nat.{pow-succ', one-le-pow, mul-le-mul_left, mul-le-mul_right, mul-lt-mul_of_pos_right, pow-le-pow_right}
-use Rattle.data_types.specs.FieldText.{is_numeral, fraction_of, unscaled, read_unscaled, read_decimal}
-use Rattle.data_types.specs.Value.{Value, Whole}
+use Rattle.data_types.specs.promise.FieldText.{is_numeral, fraction_of, unscaled, read_unscaled, read_decimal}
+use Rattle.data_types.specs.promise.Value.{Value, Whole}
 use Rattle.field_codec.proofs.Numbers.{all_front, part_digits}
 use Rattle.field_codec.specs.Fractions.{fraction_text, IsPastDecimals}
 

@@ -1,7 +1,8 @@
 -- What the code's form of a column is, and how a value is written in a form.
 use Rattle.std.specs.Prelude.{ℕ, List, []}
-use Rattle.data_types.specs.FieldText.{Form, Truths, Wholes, FloatBits, Text, HexBytes, SizedHex, Decimals, IsFlatForm, written_form}
-use Rattle.data_types.specs.Value.{Value, Null}
+use Rattle.data_types.specs.promise.FieldText.{Form, Truths, Wholes, FloatBits, Text, HexBytes, SizedHex, Decimals, written_form}
+use Rattle.data_types.specs.FieldText.{IsFlatForm}
+use Rattle.data_types.specs.promise.Value.{Value, Null}
 use Rattle.field_codec.specs.declared.form.FieldForm.{FieldForm}
 use Rattle.field_codec.specs.declared.form.FieldForm.TheVariants as forms
 

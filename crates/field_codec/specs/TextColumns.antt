@@ -2,8 +2,9 @@
 use Rattle.std.specs.Prelude.{◌≡◌, ◌≢◌, List, All, true}
 use Rattle.std.specs.List.{AllPairs}
 use Rattle.data_types.specs.declared.kind.DataType.{DataType}
-use Rattle.data_types.specs.Kinds.{KindOk, is_column_type}
-use Rattle.data_types.specs.Table.{Column, Kind, Flat, Dict, Columns}
+use Rattle.data_types.specs.promise.Kinds.{is_column_type}
+use Rattle.data_types.specs.Kinds.{KindOk}
+use Rattle.data_types.specs.promise.Table.{Column, Kind, Flat, Dict, Columns}
 use Rattle.data_types.specs.ColumnForms.{IsColumnKind}
 
 -- a column of plain values, whose type has the property

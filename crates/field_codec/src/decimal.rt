@@ -5,8 +5,8 @@ ghost use Rattle.std.specs.Option.{option_and_then};
 ghost use Rattle.std.specs.Char.{is_ascii_digit};
 ghost use Rattle.std.specs.List.{prefix_len};
 ghost use Rattle.std.specs.Str.Parse.{digits_value};
-ghost use Rattle.data_types.specs.FieldText.{read_decimal, read_unscaled};
-ghost use Rattle.data_types.specs.Value.{Whole};
+ghost use Rattle.data_types.specs.promise.FieldText.{read_decimal, read_unscaled};
+ghost use Rattle.data_types.specs.promise.Value.{Whole};
 ghost use Rattle.field_codec.specs.Fractions.{IsPastDecimals, fraction_text};
 
 use crate::digits::{with_digits, with_few_digits};

@@ -1,6 +1,6 @@
 //! The form of a column: how its fields are read and written.
 ghost use Rattle.std.specs.Prelude.{◌≡◌, option_map, IfSome, Some};
-ghost use Rattle.data_types.specs.FieldText.{form_of, places, stored_form};
+ghost use Rattle.data_types.specs.promise.FieldText.{form_of, places, stored_form};
 ghost use Rattle.data_types.specs.Kinds.{KindOk};
 ghost use Rattle.data_types.specs.ColumnForms.{IsColumnKind};
 ghost use Rattle.field_codec.specs.FieldForms.{IsProper, form_in};

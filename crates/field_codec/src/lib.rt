@@ -1,6 +1,6 @@
 //! Fields of CSV for flat types, both ways: the value that a field spells in a column, and the text of a value.
 //!
-//! The definitions are in `specs/FieldText.antt` of `data_types`. [`form_of`] or [`flat_form`] finds a column's
+//! The definitions are in `specs/promise/FieldText.antt` of `data_types`. [`form_of`] or [`flat_form`] finds a column's
 //! [`FieldForm`] once. Each form then has a call for reading and one for writing:
 //!
 //! - truth values: [`read_truth`], [`truth_text`];

@@ -3,7 +3,7 @@ ghost use Rattle.std.specs.Prelude.{◌≡◌, ◌⊎◌, ◌<◌, ◌≤◌, �
 ghost use Rattle.std.specs.List.{prefix_len};
 ghost use Rattle.std.specs.Char.{is_ascii_digit};
 ghost use Rattle.std.specs.Str.Parse.{digits_value, starts_with_minus, without_leading_sign};
-ghost use Rattle.data_types.specs.FieldText.{is_numeral};
+ghost use Rattle.data_types.specs.promise.FieldText.{is_numeral};
 
 use crate::digits::with_few_digits;
 

@@ -1,7 +1,7 @@
 //! Numbers as text.
 ghost use Rattle.std.specs.Prelude.{◌≡◌, ◌++◌, ◌-◌, ◌∷◌, ◌<◌, ◌≤◌, ◌^◌, decimal, drop, length, replicate, take, if◌then◌else◌, IfOk};
 ghost use Rattle.std.specs.Fmt.{signed_decimal};
-ghost use Rattle.data_types.specs.FieldText.{decimal_text, point_text};
+ghost use Rattle.data_types.specs.promise.FieldText.{decimal_text, point_text};
 
 use crate::powers::power;
 use crate::room::sized;

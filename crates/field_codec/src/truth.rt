@@ -1,7 +1,7 @@
 //! Truth values.
 ghost use Rattle.std.specs.Prelude.{◌≡◌, codes, if◌then◌else◌, option_map};
-ghost use Rattle.data_types.specs.FieldText.{read_truth};
-ghost use Rattle.data_types.specs.Value.{Truth};
+ghost use Rattle.data_types.specs.promise.FieldText.{read_truth};
+ghost use Rattle.data_types.specs.promise.Value.{Truth};
 
 /// The truth value that a text names: in lower case, in upper case, or with one capital letter in front.
 #[inline(always)]

@@ -1,7 +1,8 @@
 //! Whole numbers with a sign, in the range of their column.
 ghost use Rattle.std.specs.Prelude.{◌≡◌, ◌+◌, ◌-◌, ◌^◌, pos, neg_ℤ, option_map, if◌then◌else◌, Some, None};
-ghost use Rattle.data_types.specs.FieldText.{IsFlatForm, Wholes, in_range, read_whole};
-ghost use Rattle.data_types.specs.Value.{Whole};
+ghost use Rattle.data_types.specs.promise.FieldText.{Wholes, in_range, read_whole};
+ghost use Rattle.data_types.specs.FieldText.{IsFlatForm};
+ghost use Rattle.data_types.specs.promise.Value.{Whole};
 
 use crate::number::{magnitude, split_sign};
 

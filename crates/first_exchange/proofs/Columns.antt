@@ -2,14 +2,15 @@
 use Rattle.std.proofs.Common.{◌≡◌, ◌∙◌, ◌+◌, ℕ, List, [], ◌∷◌, Option, None, Some, refl, sym, ap, arith}
 use Rattle.std.specs.Prelude.{count_by, is_some}
 use Rattle.buf_block.specs.declared.hold.BufView.{BufView}
-use Rattle.data_types.specs.Value.{Value}
+use Rattle.data_types.specs.promise.Value.{Value}
 use Rattle.data_types.specs.declared.kind.DataType.{DataType}
-use Rattle.raw_array.specs.Members.{Cost, holds_of}
+use Rattle.raw_array.specs.promise.Members.{Cost, holds_of}
 use Rattle.raw_array.specs.View.{buffers_of}
 use Rattle.raw_array.proofs.Buffers.{holds_of-count}
-use Rattle.col_build.specs.Encoding.{encoded}
-use Rattle.col_build.specs.Finished.{AreMade, blocks_of, present_count}
-use Rattle.arr_export.specs.ArrayTrees.{column_tree, made_buffers}
+use Rattle.col_build.specs.promise.Encoding.{encoded}
+use Rattle.col_build.specs.promise.Finished.{blocks_of, present_count}
+use Rattle.col_build.specs.Finished.{AreMade}
+use Rattle.arr_export.specs.promise.ArrayTrees.{column_tree, made_buffers}
 
 view-holds : (views : List (Option BufView)) (buffers : List (Option (List ℕ))) → AreMade views buffers
     → holds_of (buffers_of views) ≡ present_count buffers

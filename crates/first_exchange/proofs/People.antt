@@ -2,11 +2,13 @@
 use Rattle.std.proofs.Common.{rules, ◌≡◌, ◌≤◌, List, [], ◌∷◌, map, All, refl, sym, ap, subst, arith}
 use Rattle.std.proofs.lemmas.List.Elements.{All-from_recursion}
 use Rattle.data_types.specs.ColumnView.{column_of, kind_of}
-use Rattle.data_types.specs.Table.{Column, Kind, Flat}
+use Rattle.data_types.specs.promise.Table.{Column, Kind, Flat}
 use Rattle.data_types.specs.declared.kind.ColumnType.{ColumnType}
-use Rattle.raw_schema.specs.Members.{Nodes}
-use Rattle.raw_array.specs.Members.{Cost, LeastAmount, whole}
-use Rattle.schema_check.specs.ColumnSchema.{KindsOk, SchemaOf}
+use Rattle.tree_model.specs.promise.TreeCost.{Nodes}
+use Rattle.raw_array.specs.promise.Members.{Cost, whole}
+use Rattle.raw_array.specs.Members.{LeastAmount}
+use Rattle.schema_check.specs.promise.ColumnSchema.{SchemaOf}
+use Rattle.schema_check.specs.ColumnSchema.{KindsOk}
 use Rattle.arr_export.specs.ArrayTrees.{IsColumn}
 use Rattle.arr_export.specs.ValueColumns.{plain_tree}
 use Rattle.first_exchange.specs.People.{columns, id_type, ids, name_type, names, people}

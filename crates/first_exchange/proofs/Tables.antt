@@ -1,11 +1,13 @@
 -- The children of a lawful array are live.
 use Rattle.std.proofs.Common.{◌<◌, ℕ, zero, suc, length, get_or, arith}
 use Rattle.data_types.specs.declared.kind.DataType.{DataType}
-use Rattle.tree_model.specs.Tree.{Released, Live, IsLive, Trees, no_trees, more_trees, tree_list, children_of, child_at}
-use Rattle.raw_array.specs.Members.{ArrayTree}
-use Rattle.data_types.specs.KindTrees.{KindTree, NodesOk, AllNodesOk}
+use Rattle.tree_model.specs.promise.TreeData.{Released, Live, Trees, no_trees, more_trees, tree_list}
+use Rattle.tree_model.specs.promise.TreeParts.{IsLive, children_of, child_at}
+use Rattle.raw_array.specs.promise.Members.{ArrayTree}
+use Rattle.data_types.specs.promise.KindTrees.{KindTree}
+use Rattle.data_types.specs.KindTrees.{NodesOk, AllNodesOk}
 use Rattle.layout_rules.specs.Lawful.{PartsHold, RootHolds}
-use Rattle.layout_rules.specs.Walk.{LayoutOk}
+use Rattle.layout_rules.specs.promise.Walk.{LayoutOk}
 
 pub live : (typed : KindTree) → NodesOk typed → IsLive typed
 live Released ok = absurd ok

@@ -1,12 +1,13 @@
 -- The table that is handed over: three people, of whom one has no id.
 use Rattle.std.specs.Prelude.{pos, true, false, List, [], ◌∷◌, codes}
-use Rattle.data_types.specs.Table.{Column, Flat}
-use Rattle.data_types.specs.Value.{Null, Whole, Bytes}
+use Rattle.data_types.specs.promise.Table.{Column, Flat}
+use Rattle.data_types.specs.promise.Value.{Null, Whole, Bytes}
 use Rattle.data_types.specs.declared.kind.DataType.{DataType}
 use Rattle.data_types.specs.declared.kind.DataType.TheVariants.{Int, Utf8}
-use Rattle.raw_array.specs.Members.{ArrayTree}
-use Rattle.arr_export.specs.ArrayTrees.{table_tree}
-use Rattle.arr_export.specs.ValueColumns.{TypedValues, plain_tree}
+use Rattle.raw_array.specs.promise.Members.{ArrayTree}
+use Rattle.arr_export.specs.promise.ArrayTrees.{table_tree}
+use Rattle.arr_export.specs.promise.ValueColumns.{TypedValues}
+use Rattle.arr_export.specs.ValueColumns.{plain_tree}
 
 abbrev pub id_type : DataType
 id_type = Int 32 true

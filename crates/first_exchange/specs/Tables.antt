@@ -1,7 +1,7 @@
 -- The tables that the consumer takes.
 use Rattle.std.specs.Prelude.{◌≡◌, length}
-use Rattle.tree_model.specs.Tree.{children_of}
-use Rattle.data_types.specs.KindTrees.{KindTree}
+use Rattle.tree_model.specs.promise.TreeParts.{children_of}
+use Rattle.data_types.specs.promise.KindTrees.{KindTree}
 use Rattle.arr_import.specs.Window.{IsStruct}
 
 -- a struct of two columns, whatever their types

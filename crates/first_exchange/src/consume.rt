@@ -2,10 +2,11 @@
 ghost use Rattle.std.specs.Prelude.{◌≡◌, ◌+◌, ◌≤◌, if◌then◌else◌, is_ok, IfOk};
 ghost use Rattle.unit_pass.specs.declared.pass.TheConstants.{SUPPLY};
 ghost use Rattle.data_types.specs.KindTrees.{TypedOk};
-ghost use Rattle.data_types.specs.TypedView.{typed_of};
-ghost use Rattle.raw_schema.specs.Members.{Nodes};
-ghost use Rattle.raw_array.specs.Members.{Cost, LeastAmount};
-ghost use Rattle.layout_rules.specs.Walk.{LayoutOk};
+ghost use Rattle.data_types.specs.promise.TypedView.{typed_of};
+ghost use Rattle.tree_model.specs.promise.TreeCost.{Nodes};
+ghost use Rattle.raw_array.specs.promise.Members.{Cost};
+ghost use Rattle.raw_array.specs.Members.{LeastAmount};
+ghost use Rattle.layout_rules.specs.promise.Walk.{LayoutOk};
 ghost use Rattle.first_exchange.specs.Tables.{IsOfTwo};
 
 use crate::fault::Fault;

@@ -1,6 +1,6 @@
 //! The rows of a table, read in place and printed.
 ghost use Rattle.std.specs.Prelude.{◌≤ℤ◌, ◌<ℤ◌, pos, IsTrue, OnOk};
-ghost use Rattle.data_types.specs.TypedView.{typed_of};
+ghost use Rattle.data_types.specs.promise.TypedView.{typed_of};
 ghost use Rattle.arr_import.specs.Cols.{window_of};
 ghost use Rattle.first_exchange.specs.Tables.{IsOfTwo};
 

@@ -1,19 +1,20 @@
 //! The producer: two columns, and the table of them.
 ghost use Rattle.std.specs.Prelude.{◌≡◌, ◌+◌, ◌<◌, ◌≤◌, [], ◌∷◌, length, map, None, IfOk, OnErr};
 ghost use Rattle.unit_pass.specs.declared.pass.TheConstants.{CHUNK, SUPPLY};
-ghost use Rattle.data_types.specs.FieldText.{form_of};
+ghost use Rattle.data_types.specs.promise.FieldText.{form_of};
 ghost use Rattle.data_types.specs.Kinds.{KindOk};
 ghost use Rattle.data_types.specs.ColumnView.{column_of};
-ghost use Rattle.raw_schema.specs.Members.{Nodes};
-ghost use Rattle.raw_array.specs.Members.{Cost};
+ghost use Rattle.tree_model.specs.promise.TreeCost.{Nodes};
+ghost use Rattle.raw_array.specs.promise.Members.{Cost};
 ghost use Rattle.col_build.specs.Encoding.{HasForm};
 ghost use Rattle.col_build.specs.Holding.{Holds};
 ghost use Rattle.col_build.specs.Items.{value_of};
-ghost use Rattle.schema_check.specs.ColumnSchema.{SchemaOf};
-ghost use Rattle.arr_export.specs.ArrayTrees.{IsColumn, column_tree, table_tree};
+ghost use Rattle.schema_check.specs.promise.ColumnSchema.{SchemaOf};
+ghost use Rattle.arr_export.specs.promise.ArrayTrees.{column_tree, table_tree};
+ghost use Rattle.arr_export.specs.ArrayTrees.{IsColumn};
 ghost use Rattle.arr_export.specs.ValueColumns.{plain_tree};
 ghost use Rattle.first_exchange.specs.People.{columns, ids, names, people};
-ghost use Rattle.layout_rules.specs.Rules.{window_limit};
+ghost use Rattle.layout_rules.specs.promise.Rules.{window_limit};
 
 use crate::fault::Fault;
 use arr_export::{export_column, export_schema, export_table, let_go_column};

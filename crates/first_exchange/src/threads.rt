@@ -1,8 +1,8 @@
 //! Two threads that read a table at once, each by a tree of its own over the same blocks.
 ghost use Rattle.std.specs.Prelude.{◌≡◌};
 ghost use Rattle.data_types.specs.KindTrees.{TypedOk};
-ghost use Rattle.data_types.specs.TypedView.{typed_of};
-ghost use Rattle.layout_rules.specs.Walk.{LayoutOk};
+ghost use Rattle.data_types.specs.promise.TypedView.{typed_of};
+ghost use Rattle.layout_rules.specs.promise.Walk.{LayoutOk};
 ghost use Rattle.first_exchange.specs.Tables.{IsOfTwo};
 
 use arr_import::Col;

@@ -9,8 +9,8 @@ use Rattle.std.proofs.lemmas.Str.Parse.{digit_from_value}
 use Rattle.std.proofs.lemmas.Int.Digits.{digits_value_is, number_after_ge}
 use Rattle.fmt_string.specs.declared.fault.FormatRule.{FormatRule}
 use Rattle.fmt_string.specs.declared.fault.FormatRule.TheVariants as rules
-use Rattle.fmt_string.specs.FormatString.{IsNumber, IsSigned, NoNumber, NoSigned, NumberThen, StartsWith, StartsWithDigit, comma, NumbersFail}
-use Rattle.fmt_string.specs.FormatString.NumberPlace.{AtScale, AtWidth}
+use Rattle.fmt_string.specs.promise.FormatString.{IsNumber, IsSigned, NoNumber, NoSigned, NumberThen, StartsWith, StartsWithDigit, comma, NumbersFail}
+use Rattle.fmt_string.specs.promise.FormatString.NumberPlace.{AtScale, AtWidth}
 use Rattle.fmt_string.specs.Decimal.{signed_value, parts}
 
 -- digits of which the first isn't 0 write a number above 0

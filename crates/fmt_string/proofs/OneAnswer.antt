@@ -14,14 +14,14 @@ use Rattle.fmt_string.specs.declared.fault.FormatRule.TheVariants as rules
 use Rattle.fmt_string.specs.declared.fault.FormatFault.TheVariants.{At, NoMemory}
 use Rattle.data_types.specs.declared.kind.DataType.{DataType}
 use Rattle.data_types.specs.declared.kind.DataType.TheVariants as kinds
-use Rattle.fmt_string.specs.Keywords.{Keyword, keywords, Behind}
-use Rattle.fmt_string.specs.Keywords.Behind.{Alone, Zone, BinarySize, ListSize, Numbers, Refused}
-use Rattle.fmt_string.specs.FormatString.{IsNumber, NumberThen, SizeFails, IsPrefix, UnknownAt, RestIs, RestFails, FormatIs, FormatFaultIs}
+use Rattle.fmt_string.specs.promise.Keywords.{Keyword, keywords, Behind}
+use Rattle.fmt_string.specs.promise.Keywords.Behind.{Alone, Zone, BinarySize, ListSize, Numbers, Refused}
+use Rattle.fmt_string.specs.promise.FormatString.{IsNumber, NumberThen, SizeFails, IsPrefix, UnknownAt, RestIs, RestFails, FormatIs, FormatFaultIs}
 use Rattle.fmt_string.specs.Answer.{FaultIs, Reads}
 use Rattle.fmt_string.proofs.Rereading.{number_of, number_again, no_number}
 use Rattle.fmt_string.proofs.RereadDecimal.{Answer, fault, numbers_of, decimal_again, numbers_fail}
 use Rattle.data_types.specs.Kinds.{KindOk}
-use Rattle.fmt_string.specs.Spelling.{spelling_of}
+use Rattle.fmt_string.specs.promise.Spelling.{spelling_of}
 use Rattle.fmt_string.proofs.Spelled.{spelled}
 use Rattle.fmt_string.proofs.Table.{apart, is_prefix_free, keywords_apart, and_left, and_right}
 

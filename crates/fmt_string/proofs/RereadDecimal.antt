@@ -12,11 +12,11 @@ use Rattle.fmt_string.specs.declared.fault.FormatFault.{FormatFault}
 use Rattle.fmt_string.specs.declared.fault.FormatFault.TheVariants.{At}
 use Rattle.data_types.specs.declared.kind.DataType.{DataType}
 use Rattle.data_types.specs.declared.kind.DataType.TheVariants as kinds
-use Rattle.fmt_string.specs.FormatString.{IsDigit, IsNumber, IsSigned, IsWidth, NoNumber, NumberThen, StartsWith, StartsWithDigit, comma, Parts, parts_text}
-use Rattle.fmt_string.specs.FormatString.{PartsAre, Ends, width_of, DecimalIs, NumberPlace, numbers_before, IsNumberPlace, Misses, KnownWidth}
-use Rattle.data_types.specs.Kinds.{most_precise}
-use Rattle.fmt_string.specs.FormatString.{most_at, WidthFails, RangeFails, NumbersFail}
-use Rattle.fmt_string.specs.FormatString.NumberPlace.{AtPrecision, AtScale, AtWidth}
+use Rattle.fmt_string.specs.promise.FormatString.{IsDigit, IsNumber, IsSigned, IsWidth, NoNumber, NumberThen, StartsWith, StartsWithDigit, comma, Parts, parts_text}
+use Rattle.fmt_string.specs.promise.FormatString.{PartsAre, Ends, width_of, DecimalIs, NumberPlace, numbers_before, IsNumberPlace, Misses, KnownWidth}
+use Rattle.data_types.specs.promise.Kinds.{most_precise}
+use Rattle.fmt_string.specs.promise.FormatString.{most_at, WidthFails, RangeFails, NumbersFail}
+use Rattle.fmt_string.specs.promise.FormatString.NumberPlace.{AtPrecision, AtScale, AtWidth}
 use Rattle.fmt_string.specs.Decimal.{signed_value, width_value}
 use Rattle.fmt_string.proofs.Rereading.{number_of, number_again, no_number, signed_of, signed_again, no_signed, signed_is, other_byte}
 

@@ -5,7 +5,7 @@ use Rattle.std.specs.Char.{is_ascii_digit, digit_value}
 use Rattle.std.specs.Str.Parse.{AllDigits, digits_value}
 use Rattle.std.proofs.lemmas.Bool.Decides.{nat_tests}
 use Rattle.std.proofs.lemmas.Str.Parse.{digit_from_value}
-use Rattle.fmt_string.specs.FormatString.{IsDigit, IsNumber, IsSigned, NoNumber, NoSigned, NumberThen, StartsWith, StartsWithDigit}
+use Rattle.fmt_string.specs.promise.FormatString.{IsDigit, IsNumber, IsSigned, NoNumber, NoSigned, NumberThen, StartsWith, StartsWithDigit}
 use Rattle.fmt_string.specs.Decimal.{signed_value}
 use Rattle.fmt_string.proofs.Digits.{digit_in, digit_out}
 

@@ -15,14 +15,14 @@ use Rattle.fmt_string.specs.declared.fault.FormatRule.{FormatRule}
 use Rattle.fmt_string.specs.declared.fault.FormatRule.TheVariants as rules
 use Rattle.data_types.specs.declared.kind.DataType.{DataType}
 use Rattle.data_types.specs.declared.kind.DataType.TheVariants as kinds
-use Rattle.fmt_string.specs.Keywords.{Keyword, keywords, Behind}
-use Rattle.fmt_string.specs.Keywords.Behind.{Alone, Zone, BinarySize, ListSize, Numbers, Refused}
-use Rattle.fmt_string.specs.FormatString.{IsDigit, IsNumber, IsSigned, NoNumber, NoSigned, NumberThen, StartsWith, StartsWithDigit, SizeFails, comma, Parts}
-use Rattle.fmt_string.specs.FormatString.{parts_text}
-use Rattle.fmt_string.specs.FormatString.{PartsAre, width_of, DecimalIs, KnownWidth, most_at, RangeFails, NumbersFail, RestIs, RestFails}
-use Rattle.data_types.specs.Kinds.{most_precise}
-use Rattle.fmt_string.specs.FormatString.{IsPrefix, UnknownAt}
-use Rattle.fmt_string.specs.FormatString.NumberPlace.{AtPrecision, AtScale, AtWidth}
+use Rattle.fmt_string.specs.promise.Keywords.{Keyword, keywords, Behind}
+use Rattle.fmt_string.specs.promise.Keywords.Behind.{Alone, Zone, BinarySize, ListSize, Numbers, Refused}
+use Rattle.fmt_string.specs.promise.FormatString.{IsDigit, IsNumber, IsSigned, NoNumber, NoSigned, NumberThen, StartsWith, StartsWithDigit, SizeFails, comma, Parts}
+use Rattle.fmt_string.specs.promise.FormatString.{parts_text}
+use Rattle.fmt_string.specs.promise.FormatString.{PartsAre, width_of, DecimalIs, KnownWidth, most_at, RangeFails, NumbersFail, RestIs, RestFails}
+use Rattle.data_types.specs.promise.Kinds.{most_precise}
+use Rattle.fmt_string.specs.promise.FormatString.{IsPrefix, UnknownAt}
+use Rattle.fmt_string.specs.promise.FormatString.NumberPlace.{AtPrecision, AtScale, AtWidth}
 use Rattle.fmt_string.specs.Decimal.{parts}
 use Rattle.fmt_string.specs.Answer.{Reads}
 use Rattle.fmt_string.proofs.Digits.{digit_in, digit_out, number_front, front_within}

@@ -9,11 +9,12 @@ use Rattle.data_types.specs.declared.kind.DataType.{DataType}
 use Rattle.data_types.specs.declared.kind.DataType.TheVariants as kinds
 use Rattle.data_types.specs.declared.kind.Tick.{Tick}
 use Rattle.data_types.specs.declared.kind.Tick.TheVariants.{Second, Milli, Micro, Nano}
-use Rattle.fmt_string.specs.Keywords.{keywords}
-use Rattle.fmt_string.specs.Keywords.Behind.{Alone, Zone, BinarySize, ListSize, Numbers}
-use Rattle.fmt_string.specs.FormatString.{IsNumber, IsSigned, IsWidth, comma, width_of, DecimalIs, FormatIs}
-use Rattle.data_types.specs.Kinds.{KindOk, most_precise}
-use Rattle.fmt_string.specs.Spelling.{int_word, float_word, width_text, spelling_of}
+use Rattle.fmt_string.specs.promise.Keywords.{keywords}
+use Rattle.fmt_string.specs.promise.Keywords.Behind.{Alone, Zone, BinarySize, ListSize, Numbers}
+use Rattle.fmt_string.specs.promise.FormatString.{IsNumber, IsSigned, IsWidth, comma, width_of, DecimalIs, FormatIs}
+use Rattle.data_types.specs.promise.Kinds.{most_precise}
+use Rattle.data_types.specs.Kinds.{KindOk}
+use Rattle.fmt_string.specs.promise.Spelling.{int_word, float_word, width_text, spelling_of}
 
 -- ---- numbers
 

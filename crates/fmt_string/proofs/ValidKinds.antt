@@ -5,9 +5,9 @@ use Rattle.std.specs.List.{list_all}
 use Rattle.std.proofs.lemmas.Bool.{eqb-true}
 use Rattle.data_types.specs.declared.kind.DataType.{DataType}
 use Rattle.data_types.specs.declared.kind.DataType.TheVariants as kinds
-use Rattle.fmt_string.specs.Keywords.{Keyword, keywords, Behind}
-use Rattle.fmt_string.specs.Keywords.Behind.{Alone, Zone, BinarySize, ListSize, Numbers, Refused}
-use Rattle.fmt_string.specs.FormatString.{RestIs, FormatIs}
+use Rattle.fmt_string.specs.promise.Keywords.{Keyword, keywords, Behind}
+use Rattle.fmt_string.specs.promise.Keywords.Behind.{Alone, Zone, BinarySize, ListSize, Numbers, Refused}
+use Rattle.fmt_string.specs.promise.FormatString.{RestIs, FormatIs}
 use Rattle.data_types.specs.Kinds.{KindOk}
 use Rattle.fmt_string.proofs.Table.{and_left, and_right}
 

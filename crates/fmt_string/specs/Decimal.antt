@@ -1,7 +1,7 @@
 -- The numbers of a decimal by their texts.
 use Rattle.std.specs.Prelude.{ℕ, ℤ, pos, neg_ℤ, List, [], ◌∷◌, if◌then◌else◌, ◌==◌}
 use Rattle.std.specs.Str.Parse.{digits_value}
-use Rattle.fmt_string.specs.FormatString.{Parts, PartsAre}
+use Rattle.fmt_string.specs.promise.FormatString.{Parts, PartsAre}
 
 -- the number that digits write, which a minus may begin
 abbrev pub signed_value : List ℕ → ℤ

@@ -1,7 +1,5 @@
-pub mod Keywords
-pub mod FormatString
+pub mod promise
 pub mod Decimal
-pub mod Spelling
 pub mod Meaning
 pub mod Answer
 pub mod FaultTexts

@@ -2,9 +2,9 @@
 ghost use Rattle.std.specs.Prelude.{◌≡◌, ℕ, List, Result};
 ghost use Rattle.data_types.specs.declared.kind.DataType.{DataType};
 ghost use Rattle.fmt_string.specs.declared.fault.FormatFault.{FormatFault};
-ghost use Rattle.fmt_string.specs.FormatString.{FormatIs};
+ghost use Rattle.fmt_string.specs.promise.FormatString.{FormatIs};
 ghost use Rattle.data_types.specs.Kinds.{KindOk};
-ghost use Rattle.fmt_string.specs.Spelling.{spelling_of};
+ghost use Rattle.fmt_string.specs.promise.Spelling.{spelling_of};
 ghost use Rattle.fmt_string.specs.Answer.{Reads};
 
 /// A law: each text spells a type or has a first fault, and only one.

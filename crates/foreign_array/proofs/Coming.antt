@@ -1,12 +1,12 @@
 -- What chunks come to while they are drained one after another.
 use Rattle.std.proofs.Common.{◌≡◌, ◌+◌, ◌∙◌, ℕ, List, [], ◌∷◌, ◌++◌, Option, None, Some, Result, Ok, Err, refl, sym, ap, subst, append_assoc}
 use Rattle.std.proofs.lemmas.List.{append-nil}
-use Rattle.data_types.specs.Table.{Row}
-use Rattle.raw_array.specs.Members.{ArrayTree}
-use Rattle.data_types.specs.KindTrees.{KindTree}
+use Rattle.data_types.specs.promise.Table.{Row}
+use Rattle.raw_array.specs.promise.Members.{ArrayTree}
+use Rattle.data_types.specs.promise.KindTrees.{KindTree}
 use Rattle.layout_rules.specs.Found.{fault_of}
-use Rattle.layout_rules.specs.Values.{rows_of}
-use Rattle.layout_rules.specs.Walk.{Fault, first_chunk_fault}
+use Rattle.layout_rules.specs.promise.Values.{rows_of}
+use Rattle.layout_rules.specs.promise.Walk.{Fault, first_chunk_fault}
 use Rattle.foreign_array.specs.declared.draining.DrainFault.{DrainFault}
 use Rattle.foreign_array.specs.declared.draining.DrainFault.TheVariants as faults
 use Rattle.foreign_array.specs.Drained.{Drained, Refused, Shown, ShownAfter, ShownSome, first_refused, grown, refused_at, table_if, tables_before}

@@ -1,11 +1,11 @@
 -- What the draining of chunks comes to: the tables that were seen, and the first chunk that is refused.
 use Rattle.std.specs.Prelude.{◌≡◌, ℕ, ◌+◌, List, [], ◌∷◌, ◌++◌, Option, None, Some, Result, Ok, Err}
-use Rattle.data_types.specs.Table.{Row}
-use Rattle.raw_array.specs.Members.{ArrayTree}
-use Rattle.data_types.specs.KindTrees.{KindTree}
+use Rattle.data_types.specs.promise.Table.{Row}
+use Rattle.raw_array.specs.promise.Members.{ArrayTree}
+use Rattle.data_types.specs.promise.KindTrees.{KindTree}
 use Rattle.layout_rules.specs.Found.{fault_of}
-use Rattle.layout_rules.specs.Values.{rows_of}
-use Rattle.layout_rules.specs.Walk.{Fault, first_chunk_fault}
+use Rattle.layout_rules.specs.promise.Values.{rows_of}
+use Rattle.layout_rules.specs.promise.Walk.{Fault, first_chunk_fault}
 use Rattle.foreign_array.specs.declared.draining.DrainFault.{DrainFault}
 use Rattle.foreign_array.specs.declared.draining.DrainFault.TheVariants as faults
 

@@ -1,6 +1,6 @@
 -- The texts of faults of a draining.
 use Rattle.std.specs.Prelude.{ℕ, ◌++◌, List, codes, decimal}
-use Rattle.layout_rules.specs.FaultTexts.{layout_fault_text}
+use Rattle.layout_rules.specs.promise.FaultTexts.{layout_fault_text}
 use Rattle.foreign_array.specs.declared.draining.DrainFault.{DrainFault}
 use Rattle.foreign_array.specs.declared.draining.DrainFault.TheVariants as faults
 

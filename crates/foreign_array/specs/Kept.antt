@@ -1,7 +1,8 @@
 -- A tree of a foreign producer with its owner, as their holder sees them ("The Arrow C Data Interface", "Memory management").
 use Rattle.std.specs.Prelude.{◌≢◌, ℕ, ◌+◌, List, [], ◌∷◌, Option, None, Some}
-use Rattle.tree_model.specs.Tree.{IsLive, Released}
-use Rattle.raw_array.specs.Members.{ArrayTree, Cost}
+use Rattle.tree_model.specs.promise.TreeParts.{IsLive}
+use Rattle.tree_model.specs.promise.TreeData.{Released}
+use Rattle.raw_array.specs.promise.Members.{ArrayTree, Cost}
 use Rattle.foreign_array.specs.declared.pair.Pair.{Pair}
 
 -- the tree and its owner, or nothing once they were moved away or released

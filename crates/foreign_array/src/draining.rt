@@ -1,10 +1,10 @@
 //! Chunks of a foreign producer, shown one after another and released.
 ghost use Rattle.std.specs.Prelude.{◌≡◌, ◌+◌, ◌≤◌, List, [], ◌∷◌, Option, map, OnErr, OnOk};
-ghost use Rattle.data_types.specs.Table.{Row};
+ghost use Rattle.data_types.specs.promise.Table.{Row};
 ghost use Rattle.data_types.specs.KindTrees.{TypedOk};
-ghost use Rattle.data_types.specs.TypedView.{typed_of};
-ghost use Rattle.layout_rules.specs.Values.{rows_of};
-ghost use Rattle.layout_rules.specs.Walk.{ChunkOk};
+ghost use Rattle.data_types.specs.promise.TypedView.{typed_of};
+ghost use Rattle.layout_rules.specs.promise.Values.{rows_of};
+ghost use Rattle.layout_rules.specs.promise.Walk.{ChunkOk};
 ghost use Rattle.unit_pass.specs.declared.pass.TheConstants.{SUPPLY};
 ghost use Rattle.foreign_array.specs.Kept.{AreKept, tree_in, units_of_all};
 ghost use Rattle.foreign_array.specs.Drained.{Drained, ShownAfter, grown};

@@ -1,6 +1,7 @@
 //! A tree with its owner.
 ghost use Rattle.std.specs.Prelude.{◌≡◌, ◌≢◌, ◌↔◌, ◌+◌, ◌≤◌, IsTrue, Option, None, Some};
-ghost use Rattle.tree_model.specs.Tree.{IsLive, Released};
+ghost use Rattle.tree_model.specs.promise.TreeParts.{IsLive};
+ghost use Rattle.tree_model.specs.promise.TreeData.{Released};
 ghost use Rattle.unit_pass.specs.declared.pass.TheConstants.{SUPPLY};
 ghost use Rattle.foreign_array.specs.Kept.{Kept, OwnerReleased, tree_in, owed, units_in};
 

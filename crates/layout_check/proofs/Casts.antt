@@ -6,9 +6,9 @@ use Rattle.std.specs.Prelude.{◌≤ℤ◌}
 use Rattle.std.specs.Int.Signed.{mag, lt_z, le_z, non_neg, yes_non_neg}
 use Rattle.std.proofs.Math.Facts.{to_z-of_z, Fits-nat_abs}
 use Rattle.std.proofs.lemmas.Int.{ints}
-use Rattle.layout_rules.specs.Layout.{natural}
-use Rattle.layout_rules.specs.Views.{is_long}
-use Rattle.layout_rules.specs.Rules.{is_outside}
+use Rattle.layout_rules.specs.promise.Layout.{natural}
+use Rattle.layout_rules.specs.promise.Views.{is_long}
+use Rattle.layout_rules.specs.promise.Rules.{is_outside}
 
 -- a number of 8 bytes reads as it was written, and one of 16
 pub same : (z : ℤ) → mag z < 9223372036854775808 → to_z w64 (of_z w64 z) ≡ z

@@ -2,9 +2,9 @@
 use Rattle.std.proofs.Common.{◌≡◌, ℕ, ◌+◌, ◌<◌, ◌≤◌, List, length, None, get_or, drop, ap, ◌∙◌, arith}
 use Rattle.std.specs.Option.{option_or}
 use Rattle.std.proofs.lemmas.List.{drop_more, drop_all}
-use Rattle.tree_model.specs.Tree.{Released}
-use Rattle.raw_array.specs.Members.{ArrayTree}
-use Rattle.layout_rules.specs.Rules.{child_short, short_child, live_length}
+use Rattle.tree_model.specs.promise.TreeData.{Released}
+use Rattle.raw_array.specs.promise.Members.{ArrayTree}
+use Rattle.layout_rules.specs.promise.Rules.{child_short, short_child, live_length}
 
 pub child_short-step : (needed i : ℕ) (children : List ArrayTree) → i < length children
     → child_short needed i (drop i children)

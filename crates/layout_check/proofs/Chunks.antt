@@ -4,17 +4,20 @@ use Rattle.std.specs.Prelude.{if◌then◌else◌, is_some, nat_lt}
 use Rattle.std.specs.Global.{Box}
 use Rattle.std.specs.Option.{option_or}
 use Rattle.data_types.specs.declared.kind.DataType.{DataType}
-use Rattle.tree_model.specs.Tree.{Released, Live, IsLive, Trees, trees, MaybeTree, maybe_tree}
-use Rattle.raw_array.specs.Members.{ArrayMembers, ArrayTree, members_of}
+use Rattle.tree_model.specs.promise.TreeData.{Released, Live, Trees, trees, MaybeTree, maybe_tree}
+use Rattle.tree_model.specs.promise.TreeParts.{IsLive}
+use Rattle.raw_array.specs.promise.Members.{ArrayMembers, ArrayTree, members_of}
 use Rattle.data_types.specs.declared.typed.Typed.{Typed, out-Typed}
 use Rattle.layout_rules.specs.declared.layout.Layout.{Layout}
 use Rattle.layout_rules.specs.declared.layout.Layout.TheVariants.{NoBuffers, FixedWidth, TruthBits, ByOffsets, ListOffsets, FixedItems, ByChildren, Views}
 use Rattle.layout_rules.specs.declared.rule.LayoutRule.TheVariants as rules
-use Rattle.data_types.specs.KindTrees.{KindTree}
-use Rattle.data_types.specs.TypedView.{typed_of, kids_of, kind_of, dict_in}
-use Rattle.layout_rules.specs.Layout.{layout_of, buffer_count, items, is_valid}
-use Rattle.layout_rules.specs.Rules.{null_total, null_items}
-use Rattle.layout_rules.specs.Walk.{ChunkOk, first_fault, first_chunk_fault, top_fault, root_fault, is_struct, is_absent, is_table, nulls_in}
+use Rattle.data_types.specs.promise.KindTrees.{KindTree}
+use Rattle.data_types.specs.promise.TypedView.{typed_of}
+use Rattle.data_types.specs.TypedView.{kids_of, kind_of, dict_in}
+use Rattle.layout_rules.specs.promise.Layout.{layout_of, buffer_count, items, is_valid}
+use Rattle.layout_rules.specs.promise.Rules.{null_total, null_items}
+use Rattle.layout_rules.specs.promise.Walk.{ChunkOk, first_fault, first_chunk_fault, top_fault, root_fault, is_struct, is_absent, is_table}
+use Rattle.layout_rules.specs.Walk.{nulls_in}
 use Rattle.data_types.proofs.Levels.{typed_out}
 use Rattle.layout_rules.proofs.Lawful.{first_fault-lawful, lawful-first_fault, left-none, right-none}
 

@@ -4,21 +4,25 @@ use Rattle.std.proofs.lemmas.List.{drop_more, drop_all, length-map}
 use Rattle.tree_model.proofs.Lists.{tree_list-trees}
 use Rattle.data_types.specs.declared.typed.Typed.{Typed, out-Typed}
 use Rattle.layout_rules.specs.declared.rule.LayoutRule.TheVariants as rules
-use Rattle.data_types.specs.TypedView.{typed_of, kids_of, kind_of, dict_in}
+use Rattle.data_types.specs.promise.TypedView.{typed_of}
+use Rattle.data_types.specs.TypedView.{kids_of, kind_of, dict_in}
 use Rattle.layout_rules.proofs.Walks.{fault_from-live, first_some-append}
 use Rattle.layout_check.specs.NodeView.{live_node}
-use Rattle.layout_rules.specs.Layout.{layout_of, buffer_count}
-use Rattle.layout_rules.specs.Rules.{form_rules, buffer_rules, item_rules, in_order, one_if, count_wrong, fault_if, is_negative}
+use Rattle.layout_rules.specs.promise.Layout.{layout_of, buffer_count}
+use Rattle.layout_rules.specs.promise.Rules.{form_rules, buffer_rules, item_rules, in_order, one_if, count_wrong, fault_if, is_negative}
 use Rattle.data_types.proofs.Levels.{typed_out, levels-typed, kind-ok, kids-ok, dict-ok, get_or-typed}
 use Rattle.std.specs.Global.{Box}
 use Rattle.std.specs.Option.{option_or}
 use Rattle.data_types.specs.declared.kind.DataType.{DataType}
-use Rattle.tree_model.specs.Tree.{Tree, Live, Released, trees, maybe_tree, IsLive, children_of, dictionary_of, tree_list, option_tree}
-use Rattle.raw_array.specs.Members.{ArrayTree, members_of}
-use Rattle.data_types.specs.KindTrees.{KindTree}
-use Rattle.data_types.specs.Ways.{Steps}
-use Rattle.layout_rules.specs.Walk.{rules_fault, fault_by, Fault, visits, walks_of, walk_of, walk_children, walk_dictionary, walk_below, first_some}
-use Rattle.layout_rules.specs.Walk.{visit_fault, fault_from, own_fault, children_fault, dictionary_fault, fault_at}
+use Rattle.tree_model.specs.promise.TreeData.{Tree, Live, Released, trees, maybe_tree, tree_list, option_tree}
+use Rattle.tree_model.specs.promise.TreeParts.{IsLive, children_of, dictionary_of}
+use Rattle.raw_array.specs.promise.Members.{ArrayTree, members_of}
+use Rattle.data_types.specs.promise.KindTrees.{KindTree}
+use Rattle.data_types.specs.promise.Ways.{Steps}
+use Rattle.layout_rules.specs.promise.Walk.{fault_by, Fault, visits, walks_of, walk_of, walk_children, walk_dictionary, walk_below, first_some}
+use Rattle.layout_rules.specs.Walk.{rules_fault}
+use Rattle.layout_rules.specs.promise.Walk.{visit_fault, fault_from, fault_at}
+use Rattle.layout_rules.specs.Walk.{own_fault, children_fault, dictionary_fault}
 
 -- a fault of the node itself is the first
 pub fault_from-own : (kind : DataType) (kids : List KindTree) (dict : Option KindTree) (path : Steps) (array : ArrayTree) (fault : Fault)

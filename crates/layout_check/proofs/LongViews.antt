@@ -3,9 +3,9 @@ use Rattle.std.proofs.Common.{◌≡◌, ℕ, ◌+◌, ◌<◌, ◌≤◌, ℤ, 
 use Rattle.std.proofs.lemmas.List.{length-take}
 use Rattle.std.specs.Prelude.{IsTrue}
 use Rattle.std.specs.Int.Signed.{mag, le_z}
-use Rattle.raw_array.specs.Members.{ArrayMembers}
-use Rattle.layout_rules.specs.Layout.{natural, is_valid, bytes, data_place, data_length}
-use Rattle.layout_rules.specs.Views.{view_length, view_buffer, view_offset, is_long}
+use Rattle.raw_array.specs.promise.Members.{ArrayMembers}
+use Rattle.layout_rules.specs.promise.Layout.{natural, is_valid, bytes, data_place, data_length}
+use Rattle.layout_rules.specs.promise.Views.{view_length, view_buffer, view_offset, is_long}
 use Rattle.layout_rules.specs.Within.{NamedWithin, DataWithin}
 use Rattle.layout_check.specs.Scans.{sized_data}
 use Rattle.layout_check.proofs.Casts.{is_longer}

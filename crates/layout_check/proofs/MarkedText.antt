@@ -3,9 +3,9 @@ use Rattle.std.proofs.Common.{◌≡◌, ℕ, ◌<◌, Bool, List, Option, None,
 use Rattle.std.specs.Prelude.{IfSome, IsUtf8, get_or, ◌≤ℤ◌}
 use Rattle.std.specs.Str.{IsCharBoundary}
 use Rattle.std.proofs.lemmas.Str.{IsUtf8-between, IsUtf8-nil}
-use Rattle.raw_array.specs.Members.{ArrayMembers, bytes_in}
-use Rattle.layout_rules.specs.Layout.{items, first, end, natural, offset, bytes, bytes_or_none}
-use Rattle.layout_rules.specs.Rules.{offsets_fall}
+use Rattle.raw_array.specs.promise.Members.{ArrayMembers, bytes_in}
+use Rattle.layout_rules.specs.promise.Layout.{items, first, end, natural, offset, bytes, bytes_or_none}
+use Rattle.layout_rules.specs.promise.Rules.{offsets_fall}
 use Rattle.layout_check.specs.Scans.{used_data}
 use Rattle.layout_rules.proofs.TextData.{border-from, border-rise, natural-rise, not_below}
 

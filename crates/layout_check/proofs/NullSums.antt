@@ -1,12 +1,13 @@
 -- The number of null items is that of clear bits.
 use Rattle.std.proofs.Common.{length, ◌≡◌, ℕ, zero, suc, ◌+◌, ◌-◌, ◌<◌, List, None, Some, refl, ap, ◌∙◌, arith}
 use Rattle.std.specs.Prelude.{if◌then◌else◌, ◌==◌}
-use Rattle.data_types.specs.Packed.{bit, clear_count}
-use Rattle.raw_array.specs.Members.{ArrayMembers}
+use Rattle.data_types.specs.promise.Packed.{bit}
+use Rattle.data_types.specs.Packed.{clear_count}
+use Rattle.raw_array.specs.promise.Members.{ArrayMembers}
 use Rattle.layout_rules.specs.declared.layout.Layout.{Layout}
 use Rattle.layout_rules.specs.declared.layout.Layout.TheVariants.{NoBuffers, FixedWidth, TruthBits, ByOffsets, ListOffsets, FixedItems, ByChildren, Views}
-use Rattle.layout_rules.specs.Layout.{buffer, buffer_count, first, is_valid_by}
-use Rattle.layout_rules.specs.Rules.{null_total, null_count_wrong, null_count_wrong_in}
+use Rattle.layout_rules.specs.promise.Layout.{buffer, buffer_count, first, is_valid_by}
+use Rattle.layout_rules.specs.promise.Rules.{null_total, null_count_wrong, null_count_wrong_in}
 
 clear_or : (b : ℕ) → b < 2 → (if b == 1 then 0 else 1) ≡ 1 - b
 clear_or zero h = refl

@@ -4,16 +4,19 @@ use Rattle.std.proofs.Common.{get_or, drop, arith}
 use Rattle.std.proofs.lemmas.Bool.{false≢true}
 use Rattle.std.specs.Prelude.{is_none}
 use Rattle.std.specs.Option.{option_or}
-use Rattle.tree_model.specs.Tree.{Released, IsLive, children_of, dictionary_of}
-use Rattle.raw_array.specs.Members.{ArrayTree}
+use Rattle.tree_model.specs.promise.TreeData.{Released}
+use Rattle.tree_model.specs.promise.TreeParts.{IsLive, children_of, dictionary_of}
+use Rattle.raw_array.specs.promise.Members.{ArrayTree}
 use Rattle.data_types.specs.declared.typed.Typed.{Typed, out-Typed}
 use Rattle.layout_rules.specs.declared.rule.LayoutRule.{LayoutRule}
 use Rattle.layout_rules.specs.declared.rule.Numbers.{Numbers}
-use Rattle.data_types.specs.TypedView.{typed_of, kids_of, dict_in}
+use Rattle.data_types.specs.promise.TypedView.{typed_of}
+use Rattle.data_types.specs.TypedView.{kids_of, dict_in}
 use Rattle.layout_check.specs.NodeView.{live_node}
-use Rattle.layout_rules.specs.Rules.{Node, fails, first_below, form_rules, buffer_rules, item_rules}
-use Rattle.data_types.specs.Ways.{Steps}
-use Rattle.layout_rules.specs.Walk.{rules_fault, fault_by, fault_at, fault_from, own_fault, children_fault, dictionary_fault}
+use Rattle.layout_rules.specs.promise.Rules.{Node, fails, first_below, form_rules, buffer_rules, item_rules}
+use Rattle.data_types.specs.promise.Ways.{Steps}
+use Rattle.layout_rules.specs.promise.Walk.{fault_by, fault_at, fault_from}
+use Rattle.layout_rules.specs.Walk.{rules_fault, own_fault, children_fault, dictionary_fault}
 use Rattle.layout_check.proofs.Faults.{fault_from-typed, fault_from-typed_own, own_fault-typed, children_fault-step}
 
 pub none-or : {X : Type 0} → (a b : Option X) → is_none (option_or a b) ≡ (is_none a && is_none b)

@@ -4,13 +4,14 @@ use Rattle.std.specs.Prelude.{max}
 use Rattle.std.proofs.Math.Nat.{mul-le-mul_right}
 use Rattle.data_types.specs.declared.kind.DataType.{DataType}
 use Rattle.data_types.specs.declared.kind.DataType.TheVariants as kinds
-use Rattle.data_types.specs.Packed.{offset_width}
-use Rattle.raw_array.specs.Members.{ArrayMembers}
+use Rattle.data_types.specs.promise.Packed.{offset_width}
+use Rattle.raw_array.specs.promise.Members.{ArrayMembers}
 use Rattle.layout_rules.specs.declared.layout.Layout.{Layout}
 use Rattle.layout_rules.specs.declared.layout.Layout.TheVariants.{ByOffsets, Views}
-use Rattle.layout_rules.specs.Layout.{bytes, buffer_count, offsets_need, data_need, items, first, end, IsLongIfPresent, view_width, data_lengths, lengths_need}
+use Rattle.layout_rules.specs.promise.Layout.{bytes, buffer_count, offsets_need, data_need, items, first, end, view_width, data_lengths, lengths_need}
+use Rattle.layout_rules.specs.Layout.{IsLongIfPresent}
 use Rattle.layout_check.specs.NodeView.{AreReadable}
-use Rattle.layout_rules.specs.Rules.{texts_wrong}
+use Rattle.layout_rules.specs.promise.Rules.{texts_wrong}
 use Rattle.layout_rules.specs.Within.{AreThere}
 use Rattle.layout_rules.proofs.Long.{long-bytes, long-data, long-validity, some_views, long-views, long-lengths, long-named}
 

@@ -6,10 +6,10 @@ use Rattle.std.specs.Str.{IsAscii, IsCharBoundary, is_utf8}
 use Rattle.std.specs.Str.Lossy.{utf8_valid_len}
 use Rattle.std.proofs.lemmas.List.{drop-take, take-take, drop-drop}
 use Rattle.std.proofs.lemmas.Str.{IsAscii-take, IsAscii-drop, IsUtf8-from_ascii, IsUtf8-between, is_utf8-from_IsUtf8}
-use Rattle.raw_array.specs.Members.{ArrayMembers}
+use Rattle.raw_array.specs.promise.Members.{ArrayMembers}
 use Rattle.layout_rules.specs.declared.rule.Numbers.{Numbers}
-use Rattle.layout_rules.specs.Layout.{items, first, end, natural, offset, offset_in, bytes, data_of, is_valid, stored_number}
-use Rattle.layout_rules.specs.Rules.{fault_if, first_below, offsets_fall, not_text, index_wrong, is_outside}
+use Rattle.layout_rules.specs.promise.Layout.{items, first, end, natural, offset, offset_in, bytes, data_of, is_valid, stored_number}
+use Rattle.layout_rules.specs.promise.Rules.{fault_if, first_below, offsets_fall, not_text, index_wrong, is_outside}
 use Rattle.layout_check.specs.Scans.{used_data, outside_in, AreBorders}
 use Rattle.layout_rules.proofs.Firsts.{first_below-none, first_below-none_at}
 use Rattle.layout_rules.proofs.TextData.{offsets-from, offsets-rise, natural-rise, offsets-next, offsets-last, offsets-start}

@@ -8,7 +8,7 @@ use Rattle.std.proofs.lemmas.List.{drop-take, take-take, drop-drop, length-set, 
 use Rattle.std.proofs.lemmas.Grind.{get_or-set_at}
 use Rattle.std.proofs.lemmas.Str.{IsUtf8-append, IsUtf8-take, IsUtf8-drop, IsUtf8-nil}
 use Rattle.layout_check.specs.declared.runs.Run.{Run}
-use Rattle.raw_array.specs.Members.{ArrayMembers}
+use Rattle.raw_array.specs.promise.Members.{ArrayMembers}
 use Rattle.layout_check.specs.declared.marks.Mark.{Mark}
 use Rattle.layout_check.specs.Scans.{sized_data, no_mark, IsRun, AreMarks, MarksIn}
 

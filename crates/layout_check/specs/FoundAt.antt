@@ -1,8 +1,8 @@
 -- What the code's answer at a node says.
 use Rattle.std.specs.Prelude.{Option, None, Some, Result, Ok, Err}
 use Rattle.layout_check.specs.declared.failing.Failing.{Failing}
-use Rattle.layout_rules.specs.Walk.{Fault}
-use Rattle.data_types.specs.Ways.{Steps}
+use Rattle.layout_rules.specs.promise.Walk.{Fault}
+use Rattle.data_types.specs.promise.Ways.{Steps}
 
 -- the fault of a rule that fails at the node there
 abbrev pub fault_there : Steps → Failing → Fault

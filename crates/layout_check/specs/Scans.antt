@@ -1,13 +1,13 @@
 -- What the scans over whole buffers look at.
 use Rattle.std.specs.Prelude.{◌≡◌, ℕ, ◌+◌, ◌-◌, ◌*◌, ◌<◌, ◌≤◌, ℤ, Bool, List, length, take, drop, get_or, Option, IsUtf8}
 use Rattle.std.specs.Str.{IsCharBoundary}
-use Rattle.data_types.specs.Packed.{meant, number_at}
-use Rattle.raw_array.specs.Members.{ArrayMembers}
+use Rattle.data_types.specs.promise.Packed.{meant, number_at}
+use Rattle.raw_array.specs.promise.Members.{ArrayMembers}
 use Rattle.layout_rules.specs.declared.rule.Numbers.{Numbers}
 use Rattle.layout_check.specs.declared.marks.Mark.{Mark}
 use Rattle.layout_check.specs.declared.runs.Run.{Run}
-use Rattle.layout_rules.specs.Layout.{natural, offset_in, data_between, first, end, bytes, data_place, data_length}
-use Rattle.layout_rules.specs.Rules.{fault_if, is_outside}
+use Rattle.layout_rules.specs.promise.Layout.{natural, offset_in, data_between, first, end, bytes, data_place, data_length}
+use Rattle.layout_rules.specs.promise.Rules.{fault_if, is_outside}
 
 -- the data of the window's items
 abbrev pub used_data : Bool → ArrayMembers → List ℕ

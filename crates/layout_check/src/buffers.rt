@@ -1,13 +1,13 @@
 //! What an array needs of its buffers, and whether it has that: buffers that are there, long enough, and with offsets
 //! that rise.
 ghost use Rattle.std.specs.Prelude.{◌≡◌, ◌↔◌, None, is_none, IsTrue, not, ◌&&◌, is_some, nat_lt, if◌then◌else◌, ◌==◌, int_lt, ◌+◌, ◌*◌, ◌^◌, ◌<◌, ◌≤◌, pos, length, Option};
-ghost use Rattle.data_types.specs.Packed.{offset_width};
-ghost use Rattle.tree_model.specs.Tree.{IsLive};
-ghost use Rattle.raw_array.specs.Members.{ArrayTree, members_of};
+ghost use Rattle.data_types.specs.promise.Packed.{offset_width};
+ghost use Rattle.tree_model.specs.promise.TreeParts.{IsLive};
+ghost use Rattle.raw_array.specs.promise.Members.{ArrayTree, members_of};
 ghost use Rattle.layout_check.specs.NodeView.{AreReadable, own_of};
-ghost use Rattle.layout_rules.specs.Layout.{natural, items, offset, end, bytes, offsets_need, data_need, named_need, need, buffer_count};
-ghost use Rattle.layout_rules.specs.Rules.{missing, too_short, offsets_fall_if, is_behind_offsets, buffer_absent, fault_if, offset_falls, offsets_fall};
-ghost use Rattle.layout_rules.specs.Rules.{buffer_short, first_below};
+ghost use Rattle.layout_rules.specs.promise.Layout.{natural, items, offset, end, bytes, offsets_need, data_need, named_need, need, buffer_count};
+ghost use Rattle.layout_rules.specs.promise.Rules.{missing, too_short, offsets_fall_if, is_behind_offsets, buffer_absent, fault_if, offset_falls, offsets_fall};
+ghost use Rattle.layout_rules.specs.promise.Rules.{buffer_short, first_below};
 
 use crate::node::WellFormedNode;
 use crate::scans::offsets_rise;

@@ -1,10 +1,10 @@
 //! How many items an array needs of its children, and the first child that has fewer.
 ghost use Rattle.std.specs.Prelude.{◌≡◌, None, ◌^◌, ◌<◌, length, Option};
-ghost use Rattle.tree_model.specs.Tree.{IsLive, children_of};
-ghost use Rattle.raw_array.specs.Members.{ArrayTree};
+ghost use Rattle.tree_model.specs.promise.TreeParts.{IsLive, children_of};
+ghost use Rattle.raw_array.specs.promise.Members.{ArrayTree};
 ghost use Rattle.layout_check.specs.NodeView.{AreReadable, own_of};
-ghost use Rattle.layout_rules.specs.Layout.{buffer_count};
-ghost use Rattle.layout_rules.specs.Rules.{items_need, short_child, live_length, child_short};
+ghost use Rattle.layout_rules.specs.promise.Layout.{buffer_count};
+ghost use Rattle.layout_rules.specs.promise.Rules.{items_need, short_child, live_length, child_short};
 
 use crate::buffers::{last_offset, wide_need};
 use crate::node::WellFormedNode;

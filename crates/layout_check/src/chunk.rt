@@ -1,13 +1,14 @@
 //! Chunks: what is asked of an array that holds rows.
 ghost use Rattle.std.specs.Prelude.{◌≡◌, None, Some, IsOk, IsTrue, is_none, is_some, not, ◌&&◌, ◌↔◌, pos, ℕ, length, Option};
-ghost use Rattle.raw_array.specs.Members.{ArrayTree};
+ghost use Rattle.raw_array.specs.promise.Members.{ArrayTree};
 ghost use Rattle.data_types.specs.KindTrees.{TypedOk};
 ghost use Rattle.data_types.specs.declared.typed.Typed.{out-Typed};
-ghost use Rattle.data_types.specs.TypedView.{typed_of};
-ghost use Rattle.layout_rules.specs.Layout.{layout_of, buffer_count};
+ghost use Rattle.data_types.specs.promise.TypedView.{typed_of};
+ghost use Rattle.layout_rules.specs.promise.Layout.{layout_of, buffer_count};
 ghost use Rattle.layout_rules.specs.Found.{found};
-ghost use Rattle.layout_rules.specs.Values.{rows_of};
-ghost use Rattle.layout_rules.specs.Walk.{LayoutOk, ChunkOk, root_fault, first_chunk_fault, top_fault, is_struct, is_table, nulls_in};
+ghost use Rattle.layout_rules.specs.promise.Values.{rows_of};
+ghost use Rattle.layout_rules.specs.promise.Walk.{LayoutOk, ChunkOk, root_fault, first_chunk_fault, top_fault, is_struct, is_table};
+ghost use Rattle.layout_rules.specs.Walk.{nulls_in};
 
 use crate::failing::Failing;
 use crate::node::WellFormedNode;

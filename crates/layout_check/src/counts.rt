@@ -1,10 +1,10 @@
 //! The rules on an array's own numbers, and on how many parts it has.
 ghost use Rattle.std.specs.Prelude.{◌≡◌, ◌≤ℤ◌, ◌<◌, ◌-◌, ◌^◌, nat_lt, pos, IfNone, length, Option};
-ghost use Rattle.layout_rules.specs.Layout.{buffer_count};
-ghost use Rattle.layout_rules.specs.Rules.{fault_if, window_limit, is_negative, count_wrong, one_if};
+ghost use Rattle.layout_rules.specs.promise.Layout.{buffer_count};
+ghost use Rattle.layout_rules.specs.promise.Rules.{fault_if, window_limit, is_negative, count_wrong, one_if};
 ghost use Rattle.std.specs.Global.{Box};
-ghost use Rattle.tree_model.specs.Tree.{IsLive, children_of, dictionary_of};
-ghost use Rattle.raw_array.specs.Members.{ArrayTree, members_of};
+ghost use Rattle.tree_model.specs.promise.TreeParts.{IsLive, children_of, dictionary_of};
+ghost use Rattle.raw_array.specs.promise.Members.{ArrayTree, members_of};
 
 use data_types::Typed;
 use layout_rules::{Layout, Numbers, buffer_count};

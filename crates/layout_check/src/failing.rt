@@ -2,8 +2,8 @@
 ghost use Rattle.std.specs.Prelude.{◌≡◌, None, OnOk};
 ghost use Rattle.layout_rules.specs.Found.{fault_of};
 ghost use Rattle.layout_check.specs.FoundAt.{fault_there, found_at};
-ghost use Rattle.layout_rules.specs.Walk.{fault_at};
-ghost use Rattle.data_types.specs.Ways.{Steps, steps_of};
+ghost use Rattle.layout_rules.specs.promise.Walk.{fault_at};
+ghost use Rattle.data_types.specs.promise.Ways.{Steps, steps_of};
 
 use data_types::Path;
 use layout_rules::{LayoutFault, LayoutRule, Numbers};

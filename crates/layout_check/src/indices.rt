@@ -2,11 +2,12 @@
 ghost use Rattle.std.specs.Prelude.{◌≡◌, None, ◌⊎◌, ◌+◌, ◌*◌, ◌/◌, ◌<◌, ◌≤◌, pos, length, Option};
 ghost use Rattle.data_types.specs.Packed.{IsWidth};
 ghost use Rattle.data_types.specs.Kinds.{KindOk};
-ghost use Rattle.tree_model.specs.Tree.{IsLive, dictionary_of};
-ghost use Rattle.raw_array.specs.Members.{ArrayTree};
+ghost use Rattle.tree_model.specs.promise.TreeParts.{IsLive, dictionary_of};
+ghost use Rattle.raw_array.specs.promise.Members.{ArrayTree};
 ghost use Rattle.layout_check.specs.NodeView.{AreReadable, own_of};
-ghost use Rattle.layout_rules.specs.Layout.{IsLongIfPresent, layout_of, items, end, stored_number, bytes};
-ghost use Rattle.layout_rules.specs.Rules.{fault_if, is_outside, first_below, index_wrong, indices_wrong, length_if};
+ghost use Rattle.layout_rules.specs.promise.Layout.{layout_of, items, end, stored_number, bytes};
+ghost use Rattle.layout_rules.specs.Layout.{IsLongIfPresent};
+ghost use Rattle.layout_rules.specs.promise.Rules.{fault_if, is_outside, first_below, index_wrong, indices_wrong, length_if};
 
 use crate::node::WellFormedNode;
 use crate::nulls::is_valid;

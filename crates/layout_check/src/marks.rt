@@ -2,8 +2,8 @@
 //! table of fixed size for all buffers of a node. Each buffer is cut into blocks of one length, and the table has an entry
 //! for each border of two blocks that lies in a text, in the order of the buffers and of the places.
 ghost use Rattle.std.specs.Prelude.{◌≡◌, IsTrue, ◌+◌, ◌-◌, ◌*◌, ◌^◌, ◌<◌, ◌≤◌, length, take, drop, IsUtf8};
-ghost use Rattle.raw_array.specs.Members.{ArrayMembers};
-ghost use Rattle.layout_rules.specs.Layout.{data_buffers, data_lengths, lengths_need};
+ghost use Rattle.raw_array.specs.promise.Members.{ArrayMembers};
+ghost use Rattle.layout_rules.specs.promise.Layout.{data_buffers, data_lengths, lengths_need};
 ghost use Rattle.layout_rules.specs.Within.{AreThere};
 ghost use Rattle.layout_check.specs.NodeView.{own_of};
 ghost use Rattle.layout_check.specs.Scans.{sized_data, IsRun, AreMarks, MarksIn};

@@ -1,8 +1,8 @@
 //! A live array whose numbers and parts are counted: what the rules behind the first five are tried on.
 ghost use Rattle.std.specs.Prelude.{◌≡◌, ◌≤ℤ◌, pos, length};
-ghost use Rattle.tree_model.specs.Tree.{IsLive};
-ghost use Rattle.raw_array.specs.Members.{ArrayTree, members_of};
-ghost use Rattle.layout_rules.specs.Layout.{first, end, buffer_count};
+ghost use Rattle.tree_model.specs.promise.TreeParts.{IsLive};
+ghost use Rattle.raw_array.specs.promise.Members.{ArrayTree, members_of};
+ghost use Rattle.layout_rules.specs.promise.Layout.{first, end, buffer_count};
 ghost use Rattle.layout_check.specs.Formed.{IsLive-prop};
 
 use layout_rules::Layout;
@@ -26,7 +26,7 @@ pub struct WellFormedNode<'a> {
 
 impl<'a> WellFormedNode<'a> {
     ghost use Rattle.std.specs.Prelude.{◌<◌};
-    ghost use Rattle.layout_rules.specs.Layout.{items, bytes};
+    ghost use Rattle.layout_rules.specs.promise.Layout.{items, bytes};
     ghost use Rattle.layout_check.specs.NodeView.{own_of};
 
     /// The node of an array that the first rules hold of.

@@ -1,10 +1,11 @@
 //! The null items of a window, and the rule on their number.
 ghost use Rattle.std.specs.Prelude.{◌≡◌, None, not, ◌&&◌, ◌+◌, ◌*◌, ◌<◌, ◌==◌, pos, negsuc, length, Option};
 ghost use Rattle.std.specs.Ordering.{int_eq};
-ghost use Rattle.data_types.specs.Packed.{bit};
+ghost use Rattle.data_types.specs.promise.Packed.{bit};
 ghost use Rattle.layout_check.specs.NodeView.{own_of};
-ghost use Rattle.layout_rules.specs.Layout.{items, is_valid, buffer_count, IsLongIfPresent};
-ghost use Rattle.layout_rules.specs.Rules.{fault_if, null_total, null_count_wrong, null_count_wrong_in, first_below, buffer_short};
+ghost use Rattle.layout_rules.specs.promise.Layout.{items, is_valid, buffer_count};
+ghost use Rattle.layout_rules.specs.Layout.{IsLongIfPresent};
+ghost use Rattle.layout_rules.specs.promise.Rules.{fault_if, null_total, null_count_wrong, null_count_wrong_in, first_below, buffer_short};
 
 use crate::node::WellFormedNode;
 use bit_pack::{bit_at, count_clear};

@@ -1,9 +1,9 @@
 //! Scans over whole buffers that pass what is in order, so that items are looked at one by one only for a fault.
 ghost use Rattle.std.specs.Prelude.{◌≡◌, None, is_none, IsTrue, true, false, ◌⊎◌, ◌+◌, ◌-◌, ◌*◌, ◌^◌, ◌<◌, ◌≤◌, length, Option};
 ghost use Rattle.std.specs.Str.{IsCharBoundary};
-ghost use Rattle.data_types.specs.Packed.{offset_width};
-ghost use Rattle.layout_rules.specs.Layout.{natural};
-ghost use Rattle.layout_rules.specs.Rules.{first_below, falls_in};
+ghost use Rattle.data_types.specs.promise.Packed.{offset_width};
+ghost use Rattle.layout_rules.specs.promise.Layout.{natural};
+ghost use Rattle.layout_rules.specs.promise.Rules.{first_below, falls_in};
 ghost use Rattle.layout_check.specs.Scans.{outside_in, AreBorders};
 
 use crate::runs;

@@ -2,13 +2,14 @@
 ghost use Rattle.std.specs.Prelude.{◌≡◌, ◌↔◌, None, is_none, IsTrue, IsUtf8, MatchResult, not, ◌+◌, ◌*◌, ◌^◌, ◌<◌, ◌≤◌, ◌≤ℤ◌, pos, length, Option};
 ghost use Rattle.std.specs.Str.{is_utf8};
 ghost use Rattle.std.specs.Str.Lossy.{utf8_valid_len};
-ghost use Rattle.data_types.specs.Packed.{offset_width};
+ghost use Rattle.data_types.specs.promise.Packed.{offset_width};
 ghost use Rattle.layout_check.specs.NodeView.{AreReadable, own_of};
-ghost use Rattle.layout_rules.specs.Layout.{IsLongIfPresent, natural, data_between, layout_of, first, items, offset, end, data_of, bytes, offsets_need};
-ghost use Rattle.layout_rules.specs.Layout.{data_need};
+ghost use Rattle.layout_rules.specs.promise.Layout.{natural, data_between, layout_of, first, items, offset, end, data_of, bytes, offsets_need};
+ghost use Rattle.layout_rules.specs.Layout.{IsLongIfPresent};
+ghost use Rattle.layout_rules.specs.promise.Layout.{data_need};
 ghost use Rattle.layout_check.specs.Scans.{used_data};
-ghost use Rattle.layout_rules.specs.Rules.{fault_if, first_below, offsets_fall, offsets_fall_if, is_behind_offsets, not_text};
-ghost use Rattle.layout_rules.specs.Rules.{texts_wrong, views_misplaced};
+ghost use Rattle.layout_rules.specs.promise.Rules.{fault_if, first_below, offsets_fall, offsets_fall_if, is_behind_offsets, not_text};
+ghost use Rattle.layout_rules.specs.promise.Rules.{texts_wrong, views_misplaced};
 
 use crate::buffers::offset_of;
 use crate::node::WellFormedNode;

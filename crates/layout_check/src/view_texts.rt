@@ -2,8 +2,9 @@
 //! are tested as a whole, and where one isn't text, the views are tested by a table of the buffers' texts.
 ghost use Rattle.std.specs.Prelude.{◌≡◌, None, is_none, IsTrue, ◌*◌, ◌<◌, ◌≤◌, length};
 ghost use Rattle.layout_check.specs.NodeView.{own_of};
-ghost use Rattle.layout_rules.specs.Layout.{items, end, bytes as bytes_at, is_valid, IsLongIfPresent, view_width, data_buffers, data_lengths, lengths_need};
-ghost use Rattle.layout_rules.specs.Rules.{first_below, misplaced, view_not_text};
+ghost use Rattle.layout_rules.specs.promise.Layout.{items, end, bytes as bytes_at, is_valid, view_width, data_buffers, data_lengths, lengths_need};
+ghost use Rattle.layout_rules.specs.Layout.{IsLongIfPresent};
+ghost use Rattle.layout_rules.specs.promise.Rules.{first_below, misplaced, view_not_text};
 ghost use Rattle.layout_rules.specs.Within.{DataWithin, AreThere};
 ghost use Rattle.layout_check.specs.Scans.{AreTexts, AreMarks};
 

@@ -1,21 +1,26 @@
 //! The walk over an array and its kinds: the rules of each node in preorder.
 ghost use Rattle.std.specs.Prelude.{◌≡◌, IsOk, IsTrue, is_none, ◌↔◌, ◌≤ℤ◌, pos, ◌+◌, ◌-◌, ◌^◌, ◌<◌, ◌≤◌, length, map, OnOk, [], ◌∷◌, ◌++◌, None, Option};
 ghost use Rattle.std.specs.Global.{Box};
-ghost use Rattle.tree_model.specs.Tree.{IsLive, children_of, dictionary_of, trees, maybe_tree, Depth, depth_of_all, depth_of_maybe};
-ghost use Rattle.raw_array.specs.Members.{ArrayTree, members_of};
-ghost use Rattle.data_types.specs.KindTrees.{NodesOk, AllNodesOk, DictNodesOk, TypedOk, most_levels};
+ghost use Rattle.tree_model.specs.promise.TreeParts.{IsLive, children_of, dictionary_of};
+ghost use Rattle.tree_model.specs.promise.TreeData.{trees, maybe_tree};
+ghost use Rattle.tree_model.specs.Tree.{Depth, depth_of_all, depth_of_maybe};
+ghost use Rattle.raw_array.specs.promise.Members.{ArrayTree, members_of};
+ghost use Rattle.data_types.specs.promise.KindTrees.{most_levels};
+ghost use Rattle.data_types.specs.KindTrees.{NodesOk, AllNodesOk, DictNodesOk, TypedOk};
 ghost use Rattle.data_types.specs.Kinds.{KindOk};
-ghost use Rattle.layout_rules.specs.Rules.{one_if, indices_wrong, length_if};
+ghost use Rattle.layout_rules.specs.promise.Rules.{one_if, indices_wrong, length_if};
 ghost use Rattle.data_types.specs.declared.typed.Typed.{out-Typed};
-ghost use Rattle.data_types.specs.TypedView.{typed_of, kids_of, dict_in};
+ghost use Rattle.data_types.specs.promise.TypedView.{typed_of};
+ghost use Rattle.data_types.specs.TypedView.{kids_of, dict_in};
 ghost use Rattle.layout_check.specs.NodeView.{live_node};
-ghost use Rattle.layout_rules.specs.Layout.{layout_of, buffer_count};
-ghost use Rattle.layout_rules.specs.Rules.{buffer_rules, form_rules, item_rules, offsets_fall_if, is_behind_offsets};
+ghost use Rattle.layout_rules.specs.promise.Layout.{layout_of, buffer_count};
+ghost use Rattle.layout_rules.specs.promise.Rules.{buffer_rules, form_rules, item_rules, offsets_fall_if, is_behind_offsets};
 ghost use Rattle.layout_check.specs.NodeView.{AreReadable, own_of};
-ghost use Rattle.data_types.specs.Ways.{steps_of, Steps};
+ghost use Rattle.data_types.specs.promise.Ways.{steps_of, Steps};
 ghost use Rattle.layout_rules.specs.Found.{found};
 ghost use Rattle.layout_check.specs.FoundAt.{found_at};
-ghost use Rattle.layout_rules.specs.Walk.{LayoutOk, rules_fault, first_fault, fault_from, own_fault, children_fault, dictionary_fault};
+ghost use Rattle.layout_rules.specs.promise.Walk.{LayoutOk, first_fault, fault_from};
+ghost use Rattle.layout_rules.specs.Walk.{rules_fault, own_fault, children_fault, dictionary_fault};
 
 use crate::buffers::{buffers_absent, buffers_pass, buffers_short, layout_falls, layout_passes};
 use crate::children::children_short;

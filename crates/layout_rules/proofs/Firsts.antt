@@ -2,7 +2,7 @@
 use Rattle.std.proofs.Common.{◌≡◌, ℕ, zero, suc, ◌+◌, ◌-◌, ◌<◌, Option, None, Some, refl, ap, ◌∙◌, sym, arith}
 use Rattle.std.specs.Option.{option_or}
 use Rattle.layout_rules.specs.declared.rule.Numbers.{Numbers}
-use Rattle.layout_rules.specs.Rules.{first_below}
+use Rattle.layout_rules.specs.promise.Rules.{first_below}
 
 left-none : {X : Type 0} → (a b : Option X) → option_or a b ≡ None → a ≡ None
 left-none None b e = refl

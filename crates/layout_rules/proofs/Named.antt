@@ -1,11 +1,11 @@
 -- What a long view names, by the tests of its numbers.
 use Rattle.std.proofs.Common.{◌≡◌, ℕ, ◌+◌, ◌<◌, Bool, true, false, ℤ, pos, negsuc, Option, refl, true≢false, arith}
 use Rattle.std.specs.Prelude.{if◌then◌else◌, nat_lt, ◌≤ℤ◌}
-use Rattle.raw_array.specs.Members.{ArrayMembers}
+use Rattle.raw_array.specs.promise.Members.{ArrayMembers}
 use Rattle.layout_rules.specs.declared.rule.Numbers.{Numbers}
-use Rattle.layout_rules.specs.Layout.{natural, data_buffers, data_length}
-use Rattle.layout_rules.specs.Views.{view_length, view_buffer, view_offset}
-use Rattle.layout_rules.specs.Rules.{fault, fault_if, is_negative, is_outside, named_outside}
+use Rattle.layout_rules.specs.promise.Layout.{natural, data_buffers, data_length}
+use Rattle.layout_rules.specs.promise.Views.{view_length, view_buffer, view_offset}
+use Rattle.layout_rules.specs.promise.Rules.{fault, fault_if, is_negative, is_outside, named_outside}
 
 pick : (outside before : Bool) (x y z : Option Numbers) → outside ≡ false → before ≡ false → (if outside then x else if before then y else z) ≡ z
 pick true before x y z e f = absurd (true≢false e)

@@ -1,11 +1,11 @@
 -- Where each valid view names data, its data are there.
 use Rattle.std.proofs.Common.{◌≡◌, ℕ, ◌+◌, ◌<◌, ◌≤◌, Bool, true, false, ℤ, pos, negsuc, Option, None, refl, sym, true≢false, arith}
 use Rattle.std.specs.Prelude.{if◌then◌else◌, nat_lt, ◌≤ℤ◌, IsTrue}
-use Rattle.raw_array.specs.Members.{ArrayMembers}
+use Rattle.raw_array.specs.promise.Members.{ArrayMembers}
 use Rattle.layout_rules.specs.declared.rule.Numbers.{Numbers}
-use Rattle.layout_rules.specs.Layout.{natural, items, is_valid, data_buffers, data_length}
-use Rattle.layout_rules.specs.Views.{view_length, view_buffer, view_offset, is_long}
-use Rattle.layout_rules.specs.Rules.{fault, fault_if, is_negative, is_outside, first_below, named_outside, view_outside, misplaced}
+use Rattle.layout_rules.specs.promise.Layout.{natural, items, is_valid, data_buffers, data_length}
+use Rattle.layout_rules.specs.promise.Views.{view_length, view_buffer, view_offset, is_long}
+use Rattle.layout_rules.specs.promise.Rules.{fault, fault_if, is_negative, is_outside, first_below, named_outside, view_outside, misplaced}
 use Rattle.layout_rules.specs.Within.{NamedWithin, DataWithin, AreThere}
 use Rattle.layout_rules.proofs.Firsts.{first_below-none_at}
 use Rattle.layout_rules.proofs.Named.{named-from, named-below}

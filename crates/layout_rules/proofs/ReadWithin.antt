@@ -7,24 +7,27 @@ use Rattle.std.specs.Global.{Box}
 use Rattle.std.proofs.Math.Nat.{mul-le-mul_right}
 use Rattle.data_types.specs.declared.kind.DataType.{DataType}
 use Rattle.data_types.specs.declared.kind.DataType.TheVariants as kinds
-use Rattle.data_types.specs.Packed.{offset_width}
-use Rattle.tree_model.specs.Tree.{Released, Live, IsLive, Trees, no_trees, more_trees, MaybeTree, absent, present, tree_list, option_tree, children_of}
-use Rattle.tree_model.specs.Tree.{dictionary_of, child_at}
-use Rattle.raw_array.specs.Members.{ArrayMembers, ArrayTree, members_of}
+use Rattle.data_types.specs.promise.Packed.{offset_width}
+use Rattle.tree_model.specs.promise.TreeData.{Released, Live, Trees, no_trees, more_trees, MaybeTree, absent, present, tree_list, option_tree}
+use Rattle.tree_model.specs.promise.TreeParts.{IsLive, children_of}
+use Rattle.tree_model.specs.promise.TreeParts.{dictionary_of, child_at}
+use Rattle.raw_array.specs.promise.Members.{ArrayMembers, ArrayTree, members_of}
 use Rattle.data_types.specs.declared.typed.Typed.{Typed}
 use Rattle.layout_rules.specs.declared.layout.Layout.{Layout}
 use Rattle.layout_rules.specs.declared.layout.Layout.TheVariants.{NoBuffers, FixedWidth, TruthBits, ByOffsets, ListOffsets, FixedItems, ByChildren, Views}
 use Rattle.layout_rules.specs.declared.rule.LayoutRule.{LayoutRule}
 use Rattle.layout_rules.specs.declared.rule.Numbers.{Numbers}
-use Rattle.data_types.specs.KindTrees.{KindTree}
-use Rattle.data_types.specs.TypedView.{typed_of, dict_in}
-use Rattle.layout_rules.specs.Layout.{layout_of, buffer_count, items, first, end, natural, bytes, offset, offsets_need, is_valid, stored_number, view_width}
-use Rattle.layout_rules.specs.Rules.{Node, fails, fault_if, in_order, first_below, buffer_absent, buffer_short, offsets_fall_if, is_behind_offsets, is_outside}
-use Rattle.layout_rules.specs.Rules.{items_need, short_child, child_short, live_length, length_if, index_wrong, indices_wrong, views_misplaced}
-use Rattle.data_types.specs.Ways.{Steps, dictionary_step}
-use Rattle.layout_rules.specs.Walk.{LayoutOk, first_fault, fault_from, own_fault, children_fault, dictionary_fault, rules_fault, first_some, fault_by}
-use Rattle.layout_rules.specs.Walk.{fault_at, node_fault, node_of, visit_fault, visits, walks_of, walk_of, walk_children, walk_dictionary}
-use Rattle.layout_rules.specs.Values.{tree_items}
+use Rattle.data_types.specs.promise.KindTrees.{KindTree}
+use Rattle.data_types.specs.promise.TypedView.{typed_of}
+use Rattle.data_types.specs.TypedView.{dict_in}
+use Rattle.layout_rules.specs.promise.Layout.{layout_of, buffer_count, items, first, end, natural, bytes, offset, offsets_need, is_valid, stored_number, view_width}
+use Rattle.layout_rules.specs.promise.Rules.{Node, fails, fault_if, in_order, first_below, buffer_absent, buffer_short, offsets_fall_if, is_behind_offsets, is_outside}
+use Rattle.layout_rules.specs.promise.Rules.{items_need, short_child, child_short, live_length, length_if, index_wrong, indices_wrong, views_misplaced}
+use Rattle.data_types.specs.promise.Ways.{Steps, dictionary_step}
+use Rattle.layout_rules.specs.promise.Walk.{LayoutOk, first_fault, fault_from, first_some, fault_by}
+use Rattle.layout_rules.specs.Walk.{own_fault, children_fault, dictionary_fault, rules_fault}
+use Rattle.layout_rules.specs.promise.Walk.{fault_at, node_fault, node_of, visit_fault, visits, walks_of, walk_of, walk_children, walk_dictionary}
+use Rattle.layout_rules.specs.promise.Values.{tree_items}
 use Rattle.layout_rules.specs.Within.{StoredWithin, ItemsWithin, IndexWithin, ViewWithin}
 use Rattle.data_types.proofs.Levels.{typed_out}
 use Rattle.layout_rules.proofs.Firsts.{first_below-none_at}

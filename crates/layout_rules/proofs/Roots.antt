@@ -2,21 +2,25 @@
 use Rattle.std.proofs.Common.{◌≡◌, ℕ, zero, suc, ◌<◌, ◌≤◌, ℤ, pos, negsuc, List, [], ◌∷◌, length, Option, Some, None, refl, ap, ◌∙◌, sym, subst, arith}
 use Rattle.std.specs.Prelude.{nat_lt, ◌≤ℤ◌, ◌^◌}
 use Rattle.data_types.specs.declared.kind.DataType.{DataType}
-use Rattle.tree_model.specs.Tree.{Released, Live, IsLive, Trees, trees, MaybeTree, maybe_tree, absent, present, tree_list, option_tree, children_of}
-use Rattle.tree_model.specs.Tree.{dictionary_of}
+use Rattle.tree_model.specs.promise.TreeData.{Released, Live, Trees, trees, MaybeTree, maybe_tree, absent, present, tree_list, option_tree}
+use Rattle.tree_model.specs.promise.TreeParts.{IsLive, children_of}
+use Rattle.tree_model.specs.promise.TreeParts.{dictionary_of}
 use Rattle.tree_model.proofs.Lists.{tree_list-trees, trees-tree_list}
-use Rattle.raw_array.specs.Members.{ArrayMembers, ArrayTree, members_of}
+use Rattle.raw_array.specs.promise.Members.{ArrayMembers, ArrayTree, members_of}
 use Rattle.data_types.specs.declared.typed.Typed.{Typed, out-Typed}
 use Rattle.layout_rules.specs.declared.rule.LayoutRule.TheVariants as rules
-use Rattle.data_types.specs.KindTrees.{KindTree}
-use Rattle.data_types.specs.TypedView.{typed_of, kids_of, kind_of, dict_in}
-use Rattle.layout_rules.specs.Layout.{layout_of, buffer_count, items, end, IsLongIfPresent}
-use Rattle.layout_rules.specs.Rules.{Node, fault_if, count_wrong, is_negative, in_order, one_if, window_limit, first_below, buffer_absent, buffer_short}
-use Rattle.layout_rules.specs.Rules.{offsets_fall_if, is_behind_offsets, items_need, child_short, length_if, indices_wrong, views_misplaced}
-use Rattle.layout_rules.specs.Values.{tree_items}
-use Rattle.data_types.specs.Ways.{Steps}
-use Rattle.layout_rules.specs.Walk.{LayoutOk, fault_from, own_fault, rules_fault, first_some, visit_fault, walk_below, walks_of}
-use Rattle.layout_rules.specs.Walk.{walk_of}
+use Rattle.data_types.specs.promise.KindTrees.{KindTree}
+use Rattle.data_types.specs.promise.TypedView.{typed_of}
+use Rattle.data_types.specs.TypedView.{kids_of, kind_of, dict_in}
+use Rattle.layout_rules.specs.promise.Layout.{layout_of, buffer_count, items, end}
+use Rattle.layout_rules.specs.Layout.{IsLongIfPresent}
+use Rattle.layout_rules.specs.promise.Rules.{Node, fault_if, count_wrong, is_negative, in_order, one_if, window_limit, first_below, buffer_absent, buffer_short}
+use Rattle.layout_rules.specs.promise.Rules.{offsets_fall_if, is_behind_offsets, items_need, child_short, length_if, indices_wrong, views_misplaced}
+use Rattle.layout_rules.specs.promise.Values.{tree_items}
+use Rattle.data_types.specs.promise.Ways.{Steps}
+use Rattle.layout_rules.specs.promise.Walk.{LayoutOk, fault_from, first_some, visit_fault, walk_below, walks_of}
+use Rattle.layout_rules.specs.Walk.{own_fault, rules_fault}
+use Rattle.layout_rules.specs.promise.Walk.{walk_of}
 use Rattle.data_types.proofs.Levels.{typed_out}
 use Rattle.layout_rules.proofs.Long.{long-validity}
 use Rattle.layout_rules.proofs.NamedRules.{AreMet, are-met}

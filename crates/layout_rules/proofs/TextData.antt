@@ -5,10 +5,10 @@ use Rattle.std.specs.Prelude.{if◌then◌else◌, int_lt, nat_lt, ◌≤ℤ◌,
 use Rattle.std.specs.Int.Signed.{≤ℤ_refl}
 use Rattle.std.specs.Str.{is_utf8}
 use Rattle.std.proofs.lemmas.Str.{IsUtf8-from_is_utf8, is_utf8-from_IsUtf8}
-use Rattle.raw_array.specs.Members.{ArrayMembers}
+use Rattle.raw_array.specs.promise.Members.{ArrayMembers}
 use Rattle.layout_rules.specs.declared.rule.Numbers.{Numbers}
-use Rattle.layout_rules.specs.Layout.{items, first, end, natural, offset, bytes, offsets_need, data_need}
-use Rattle.layout_rules.specs.Rules.{fault_if, fault, is_negative, first_below, offset_falls, offsets_fall}
+use Rattle.layout_rules.specs.promise.Layout.{items, first, end, natural, offset, bytes, offsets_need, data_need}
+use Rattle.layout_rules.specs.promise.Rules.{fault_if, fault, is_negative, first_below, offset_falls, offsets_fall}
 use Rattle.layout_rules.proofs.Firsts.{first_below-none_at}
 
 -- ---- the test

@@ -3,14 +3,15 @@ use Rattle.std.proofs.Common.{◌≡◌, ℕ, zero, suc, ◌<◌, ◌&&◌, not,
 use Rattle.std.specs.Prelude.{if◌then◌else◌, nat_lt, ◌≤ℤ◌}
 use Rattle.data_types.specs.declared.kind.DataType.{DataType}
 use Rattle.data_types.specs.declared.kind.DataType.TheVariants as kinds
-use Rattle.tree_model.specs.Tree.{Tree, Released, Live, IsLive, MaybeTree, absent, present, option_tree, child_at}
-use Rattle.raw_array.specs.Members.{ArrayTree}
-use Rattle.data_types.specs.KindTrees.{KindTree}
-use Rattle.layout_rules.specs.Layout.{items, natural}
-use Rattle.layout_rules.specs.Rules.{null_total}
-use Rattle.layout_rules.specs.Walk.{LayoutOk, ChunkOk, root_fault, is_struct, is_absent}
+use Rattle.tree_model.specs.promise.TreeData.{Tree, Released, Live, MaybeTree, absent, present, option_tree}
+use Rattle.tree_model.specs.promise.TreeParts.{IsLive, child_at}
+use Rattle.raw_array.specs.promise.Members.{ArrayTree}
+use Rattle.data_types.specs.promise.KindTrees.{KindTree}
+use Rattle.layout_rules.specs.promise.Layout.{items, natural}
+use Rattle.layout_rules.specs.promise.Rules.{null_total}
+use Rattle.layout_rules.specs.promise.Walk.{LayoutOk, ChunkOk, root_fault, is_struct, is_absent}
 use Rattle.layout_rules.specs.declared.rule.LayoutRule.TheVariants as rules
-use Rattle.layout_rules.specs.Values.{each, row_items, rows_of, tree_items}
+use Rattle.layout_rules.specs.promise.Values.{each, row_items, rows_of, tree_items}
 use Rattle.layout_rules.specs.Lawful.{RootHolds, PartsHold, ItemsHold, ChunkHolds}
 use Rattle.layout_rules.proofs.Roots.{level_in, lawful-level_in, root-live, root-length, root-offset, root-count, root-end, root-validity, root-children}
 use Rattle.layout_rules.proofs.Roots.{root-dictionary, tree_items-items}

@@ -1,13 +1,14 @@
 -- What holds of a lawful array whose type is there: at its root, of its parts, and of its items.
 use Rattle.std.specs.Prelude.{◌≡◌, ℕ, ◌+◌, ◌<◌, ◌≤◌, ◌≤ℤ◌, pos, length, Some, None}
 use Rattle.data_types.specs.declared.kind.DataType.TheVariants as kinds
-use Rattle.tree_model.specs.Tree.{IsLive, children_of, dictionary_of, child_at}
-use Rattle.raw_array.specs.Members.{ArrayTree, members_of}
-use Rattle.data_types.specs.KindTrees.{KindTree, kind_in}
-use Rattle.layout_rules.specs.Layout.{layout_of, buffer_count, IsLongIfPresent, first, items, end}
-use Rattle.layout_rules.specs.Rules.{one_if, items_need, null_total, window_limit}
-use Rattle.layout_rules.specs.Walk.{LayoutOk}
-use Rattle.layout_rules.specs.Values.{tree_items}
+use Rattle.tree_model.specs.promise.TreeParts.{IsLive, children_of, dictionary_of, child_at}
+use Rattle.raw_array.specs.promise.Members.{ArrayTree, members_of}
+use Rattle.data_types.specs.promise.KindTrees.{KindTree, kind_in}
+use Rattle.layout_rules.specs.promise.Layout.{layout_of, buffer_count, first, items, end}
+use Rattle.layout_rules.specs.Layout.{IsLongIfPresent}
+use Rattle.layout_rules.specs.promise.Rules.{one_if, items_need, null_total, window_limit}
+use Rattle.layout_rules.specs.promise.Walk.{LayoutOk}
+use Rattle.layout_rules.specs.promise.Values.{tree_items}
 use Rattle.layout_rules.specs.Within.{StoredWithin, ViewWithin, ItemsWithin, IndexWithin}
 
 pub record RootHolds (typed : KindTree) (array : ArrayTree) : Type 0 where

@@ -1,10 +1,7 @@
+pub mod promise
 pub mod Layout
-pub mod Views
-pub mod Rules
 pub mod Walk
 pub mod Found
-pub mod Values
 pub mod WorkedArrays
 pub mod Within
 pub mod Lawful
-pub mod FaultTexts

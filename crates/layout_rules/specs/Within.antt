@@ -3,13 +3,13 @@
 use Rattle.std.specs.Prelude.{ℕ, ◌+◌, ◌*◌, ◌/◌, ◌<◌, ◌≤◌, ◌≤ℤ◌, pos, Bool, IsTrue, List, length}
 use Rattle.data_types.specs.declared.kind.DataType.{DataType}
 use Rattle.data_types.specs.declared.kind.DataType.TheVariants as kinds
-use Rattle.data_types.specs.Packed.{offset_width}
-use Rattle.raw_array.specs.Members.{ArrayMembers, ArrayTree}
+use Rattle.data_types.specs.promise.Packed.{offset_width}
+use Rattle.raw_array.specs.promise.Members.{ArrayMembers, ArrayTree}
 use Rattle.layout_rules.specs.declared.layout.Layout.{Layout}
 use Rattle.layout_rules.specs.declared.layout.Layout.TheVariants.{NoBuffers, FixedWidth, TruthBits, ByOffsets, ListOffsets, FixedItems, ByChildren, Views}
-use Rattle.layout_rules.specs.Layout.{natural, bytes, offset, offset_in, is_valid, stored_number, view_width, data_buffers, data_length, data_place}
-use Rattle.layout_rules.specs.Views.{view_length, view_buffer, view_offset, is_long}
-use Rattle.layout_rules.specs.Values.{tree_items}
+use Rattle.layout_rules.specs.promise.Layout.{natural, bytes, offset, offset_in, is_valid, stored_number, view_width, data_buffers, data_length, data_place}
+use Rattle.layout_rules.specs.promise.Views.{view_length, view_buffer, view_offset, is_long}
+use Rattle.layout_rules.specs.promise.Values.{tree_items}
 
 -- the offset at a place and the one behind it are there, the first is at least 0, and the second no less than it
 pub record OffsetsRise (wide : Bool) (offsets : List ℕ) (place : ℕ) : Type 0 where

@@ -2,13 +2,13 @@
 use Rattle.std.specs.Prelude.{ℕ, ◌^◌, ℤ, pos, negsuc, true, false, List, [], ◌∷◌, Option, Some, None}
 use Rattle.data_types.specs.declared.kind.DataType.{DataType}
 use Rattle.data_types.specs.declared.kind.DataType.TheVariants as kinds
-use Rattle.tree_model.specs.Tree.{Live, no_trees, more_trees, absent, present}
+use Rattle.tree_model.specs.promise.TreeData.{Live, no_trees, more_trees, absent, present}
 use Rattle.raw_array.specs.declared.array.ReleaseKind.TheVariants.{Exported}
-use Rattle.raw_array.specs.Members.{ArrayTree, ArrayMembers, Buffer}
+use Rattle.raw_array.specs.promise.Members.{ArrayTree, ArrayMembers, Buffer}
 use Rattle.layout_rules.specs.declared.rule.LayoutRule.{LayoutRule}
-use Rattle.data_types.specs.KindTrees.{KindTree}
-use Rattle.data_types.specs.Ways.{Steps}
-use Rattle.layout_rules.specs.Walk.{Fault}
+use Rattle.data_types.specs.promise.KindTrees.{KindTree}
+use Rattle.data_types.specs.promise.Ways.{Steps}
+use Rattle.layout_rules.specs.promise.Walk.{Fault}
 
 abbrev pub faulty : Steps → LayoutRule → ℕ → ℤ → ℤ → Option Fault
 faulty path rule place left right = Some (record { path = path; rule = rule; numbers = record { place = place; left = left; right = right } })

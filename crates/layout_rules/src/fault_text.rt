@@ -1,6 +1,6 @@
 //! The texts of faults of arrays: where the node stands, which rule it breaks, and the rule's place and numbers.
 ghost use Rattle.std.specs.Prelude.{◌≡◌, Some};
-ghost use Rattle.layout_rules.specs.FaultTexts.{rule_text, layout_fault_text};
+ghost use Rattle.layout_rules.specs.promise.FaultTexts.{rule_text, layout_fault_text};
 
 use crate::rule::{LayoutFault, LayoutRule};
 use std::fmt;

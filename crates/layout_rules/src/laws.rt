@@ -1,14 +1,17 @@
 //! What a lawful array promises to its reader, as laws over the definitions. The calls do nothing.
 ghost use Rattle.std.specs.Prelude.{◌≡◌, ◌↔◌, None, Some, IsTrue, is_none, ◌≤ℤ◌, pos, ℕ, ◌+◌, ◌<◌, ◌≤◌, length, get_or};
-ghost use Rattle.tree_model.specs.Tree.{Released, IsLive, child_at, children_of, dictionary_of};
-ghost use Rattle.raw_array.specs.Members.{ArrayTree, members_of};
+ghost use Rattle.tree_model.specs.promise.TreeData.{Released};
+ghost use Rattle.tree_model.specs.promise.TreeParts.{IsLive, child_at, children_of, dictionary_of};
+ghost use Rattle.raw_array.specs.promise.Members.{ArrayTree, members_of};
 ghost use Rattle.data_types.specs.declared.typed.Typed.{out-Typed};
-ghost use Rattle.data_types.specs.KindTrees.{KindTree};
-ghost use Rattle.data_types.specs.TypedView.{typed_of, kind_of, kids_of, dict_in};
-ghost use Rattle.layout_rules.specs.Layout.{layout_of, buffer_count, IsLongIfPresent, first, items, end};
-ghost use Rattle.layout_rules.specs.Rules.{one_if, items_need, window_limit};
-ghost use Rattle.layout_rules.specs.Walk.{LayoutOk, ChunkOk, first_fault};
-ghost use Rattle.layout_rules.specs.Values.{tree_items, rows_of};
+ghost use Rattle.data_types.specs.promise.KindTrees.{KindTree};
+ghost use Rattle.data_types.specs.promise.TypedView.{typed_of};
+ghost use Rattle.data_types.specs.TypedView.{kind_of, kids_of, dict_in};
+ghost use Rattle.layout_rules.specs.promise.Layout.{layout_of, buffer_count, first, items, end};
+ghost use Rattle.layout_rules.specs.Layout.{IsLongIfPresent};
+ghost use Rattle.layout_rules.specs.promise.Rules.{one_if, items_need, window_limit};
+ghost use Rattle.layout_rules.specs.promise.Walk.{LayoutOk, ChunkOk, first_fault};
+ghost use Rattle.layout_rules.specs.promise.Values.{tree_items, rows_of};
 ghost use Rattle.layout_rules.specs.Lawful.{RootHolds, PartsHold, ItemsHold, ChunkHolds};
 ghost use Rattle.layout_rules.specs.Within.{StoredWithin, ViewWithin, ItemsWithin, IndexWithin};
 

@@ -1,7 +1,7 @@
 //! How the arrays of a type are laid out, and how many buffers they have.
 ghost use Rattle.std.specs.Prelude.{◌≡◌};
-ghost use Rattle.data_types.specs.Storage.{storage_of};
-ghost use Rattle.layout_rules.specs.Layout.{layout_of, buffer_count};
+ghost use Rattle.data_types.specs.promise.Storage.{storage_of};
+ghost use Rattle.layout_rules.specs.promise.Layout.{layout_of, buffer_count};
 
 use data_types::{DataType, Storage, storage_of};
 

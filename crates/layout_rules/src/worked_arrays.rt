@@ -1,11 +1,11 @@
 //! Small arrays, computed from the definitions.
 ghost use Rattle.std.specs.Prelude.{◌≡◌, None, [], ◌∷◌, pos, negsuc};
 ghost use Rattle.data_types.specs.declared.kind.DataType.TheVariants as kinds;
-ghost use Rattle.data_types.specs.Value.{values};
-ghost use Rattle.data_types.specs.Value.Value.{Null, Whole, Bytes, Fields};
+ghost use Rattle.data_types.specs.promise.Value.{values};
+ghost use Rattle.data_types.specs.promise.Value.Value.{Null, Whole, Bytes, Fields};
 ghost use Rattle.layout_rules.specs.declared.rule.LayoutRule.TheVariants as rules;
-ghost use Rattle.layout_rules.specs.Walk.{first_fault};
-ghost use Rattle.layout_rules.specs.Values.{values_of};
+ghost use Rattle.layout_rules.specs.promise.Walk.{first_fault};
+ghost use Rattle.layout_rules.specs.promise.Values.{values_of};
 ghost use Rattle.layout_rules.specs.WorkedArrays.{faulty, flat, int32, text, row_of, coded, buffer, last_three, window_over_window, no_text, falling_text};
 ghost use Rattle.layout_rules.specs.WorkedArrays.{index, short_numbers, short_column, far_null};
 

@@ -3,21 +3,23 @@ use Rattle.std.proofs.Common.{◌≡◌, ◌∙◌, ◌≤◌, ◌<◌, ◌+◌,
 use Rattle.std.proofs.lemmas.Bool.{false≢true}
 use Rattle.std.proofs.lemmas.List.Elements.{All-append, All-head, All-replicate, All-tail}
 use Rattle.std.specs.List.{flat_map}
-use Rattle.data_types.specs.Value.{Value}
-use Rattle.tree_model.specs.Tree.{Released, Live, IsLive, child_at, children_of}
-use Rattle.raw_array.specs.Members.{ArrayTree, members_of}
-use Rattle.data_types.specs.KindTrees.{KindTree, TypedOk}
-use Rattle.layout_rules.specs.Layout.{first}
+use Rattle.data_types.specs.promise.Value.{Value}
+use Rattle.tree_model.specs.promise.TreeData.{Released, Live}
+use Rattle.tree_model.specs.promise.TreeParts.{IsLive, child_at, children_of}
+use Rattle.raw_array.specs.promise.Members.{ArrayTree, members_of}
+use Rattle.data_types.specs.promise.KindTrees.{KindTree}
+use Rattle.data_types.specs.KindTrees.{TypedOk}
+use Rattle.layout_rules.specs.promise.Layout.{first}
 use Rattle.layout_rules.specs.Lawful.{ItemsHold, RootHolds}
-use Rattle.layout_rules.specs.Values.{each, tree_items, value_at}
+use Rattle.layout_rules.specs.promise.Values.{each, tree_items, value_at}
 use Rattle.arr_import.specs.Window.{Window, item_at, whole}
 use Rattle.column_fill.specs.Gathered.{values_of_runs}
 use Rattle.column_fill.specs.declared.runs.Run.{Run}
 use Rattle.array_laws.specs.Items.{IsItemOf}
-use Rattle.list_cols.specs.Faults.{is_flat_list}
-use Rattle.column_fill.specs.FlatColumns.{is_flat_column}
+use Rattle.list_cols.specs.promise.Faults.{is_flat_list}
+use Rattle.column_fill.specs.promise.FlatColumns.{is_flat_column}
 use Rattle.list_cols.specs.Listed.{listed, run_of}
-use Rattle.list_cols.specs.Nested.{items_in}
+use Rattle.list_cols.specs.promise.Nested.{items_in}
 use Rattle.list_cols.specs.Spreading.{chunk_runs, list_at}
 use Rattle.list_cols.proofs.Chunks.{IsChunk, ItemsLaw, RootLaw, reaches, row-item}
 use Rattle.list_cols.proofs.Kids.{IsFlatList, flat-list}

@@ -2,23 +2,24 @@
 use Rattle.std.proofs.Common.{◌≡◌, ◌≢◌, ◌∙◌, ◌≤◌, ◌<◌, ◌+◌, ◌^◌, ℕ, zero, suc, List, [], ◌∷◌, ◌++◌, All, length, map, get_or, replicate, refl, ap, sym, arith}
 use Rattle.std.proofs.lemmas.List.{get_or-map, get_or-set_other, get_or-set_same, length-map, length-set}
 use Rattle.std.specs.List.{flat_map}
-use Rattle.data_types.specs.Parts.{column_values}
-use Rattle.data_types.specs.Table.{Row}
-use Rattle.data_types.specs.Value.{Value, Null}
+use Rattle.data_types.specs.promise.Parts.{column_values}
+use Rattle.data_types.specs.promise.Table.{Row}
+use Rattle.data_types.specs.promise.Value.{Value, Null}
 use Rattle.data_types.specs.declared.kind.DataType.{DataType}
 use Rattle.data_types.specs.declared.kind.DataType.TheVariants as kinds
-use Rattle.tree_model.specs.Tree.{Released, Live, IsLive, Trees, no_trees, more_trees, tree_list, child_at, children_of}
-use Rattle.raw_array.specs.Members.{ArrayTree, members_of}
-use Rattle.data_types.specs.KindTrees.{KindTree, kind_in}
-use Rattle.layout_rules.specs.Layout.{first, layout_of}
+use Rattle.tree_model.specs.promise.TreeData.{Released, Live, Trees, no_trees, more_trees, tree_list}
+use Rattle.tree_model.specs.promise.TreeParts.{IsLive, child_at, children_of}
+use Rattle.raw_array.specs.promise.Members.{ArrayTree, members_of}
+use Rattle.data_types.specs.promise.KindTrees.{KindTree, kind_in}
+use Rattle.layout_rules.specs.promise.Layout.{first, layout_of}
 use Rattle.layout_rules.specs.Lawful.{ChunkHolds, ItemsHold, PartsHold, RootHolds}
-use Rattle.layout_rules.specs.Rules.{items_need}
-use Rattle.layout_rules.specs.Values.{each, field_items, readers, row_items, rows_of, tree_items, value_at}
-use Rattle.layout_rules.specs.Walk.{ChunkOk, LayoutOk}
+use Rattle.layout_rules.specs.promise.Rules.{items_need}
+use Rattle.layout_rules.specs.promise.Values.{each, field_items, readers, row_items, rows_of, tree_items, value_at}
+use Rattle.layout_rules.specs.promise.Walk.{ChunkOk, LayoutOk}
 use Rattle.column_fill.specs.Gathered.{values_of_runs}
-use Rattle.list_cols.specs.Exploded.{exploded_kinds, item_kind}
+use Rattle.list_cols.specs.promise.Exploded.{exploded_kinds, item_kind}
 use Rattle.list_cols.specs.Listed.{listed, run_of}
-use Rattle.list_cols.specs.Nested.{Explode, items_in}
+use Rattle.list_cols.specs.promise.Nested.{Explode, items_in}
 use Rattle.list_cols.specs.Spreading.{chunk_runs, list_at}
 use Rattle.list_cols.proofs.Spread.{others, own, widths}
 

@@ -3,10 +3,10 @@ use Rattle.std.proofs.Common.{◌≡◌, ◌∙◌, ◌≤◌, ◌+◌, ◌-◌,
 use Rattle.std.proofs.lemmas.Grind.{flat_map-append}
 use Rattle.std.proofs.lemmas.List.{append-nil}
 use Rattle.std.specs.List.{flat_map}
-use Rattle.data_types.specs.Value.{Value}
-use Rattle.layout_rules.specs.Values.{each}
+use Rattle.data_types.specs.promise.Value.{Value}
+use Rattle.layout_rules.specs.promise.Values.{each}
 use Rattle.list_cols.specs.Listed.{listed}
-use Rattle.list_cols.specs.Nested.{items_in}
+use Rattle.list_cols.specs.promise.Nested.{items_in}
 use Rattle.list_cols.proofs.ListItems.{each-next}
 
 module _ (size : List Value → ℕ) (sum : (xs ys : List Value) → size (xs ++ ys) ≡ size xs + size ys) where

@@ -3,13 +3,15 @@ use Rattle.std.proofs.Common.{◌≡◌, ◌≢◌, ◌<◌, ℕ, zero, suc, Lis
 use Rattle.std.proofs.lemmas.Option.{none-some}
 use Rattle.data_types.specs.declared.kind.DataType.{DataType}
 use Rattle.data_types.specs.declared.kind.DataType.TheVariants as kinds
-use Rattle.tree_model.specs.Tree.{Released, Live, Trees, IsLive, no_trees, more_trees, absent, present, trees, tree_list, child_at, children_of, dictionary_of}
+use Rattle.tree_model.specs.promise.TreeData.{Released, Live, Trees, no_trees, more_trees, absent, present, trees, tree_list}
+use Rattle.tree_model.specs.promise.TreeParts.{IsLive, child_at, children_of, dictionary_of}
 use Rattle.tree_model.proofs.Lists.{trees-tree_list}
-use Rattle.raw_schema.specs.Members.{SchemaMembers, SchemaTree}
-use Rattle.data_types.specs.KindTrees.{KindTree, kind_in}
-use Rattle.schema_check.specs.Schemas.{KidsTyped, NodeIs, TypedFrom, TypedOf}
+use Rattle.raw_schema.specs.promise.Members.{SchemaMembers, SchemaTree}
+use Rattle.data_types.specs.promise.KindTrees.{KindTree, kind_in}
+use Rattle.schema_check.specs.promise.Schemas.{KidsTyped, NodeIs, TypedFrom, TypedOf}
 use Rattle.arr_export.specs.ArrayTrees.{flat_type}
-use Rattle.list_cols.specs.Exploded.{exploded_type, item_kind}
+use Rattle.list_cols.specs.promise.Exploded.{item_kind}
+use Rattle.list_cols.specs.Exploded.{exploded_type}
 use Rattle.list_cols.specs.Fields.{exploded_schema, item_field, renamed_field}
 
 -- its kinds have no children and no dictionary

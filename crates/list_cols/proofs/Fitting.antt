@@ -3,25 +3,27 @@ use Rattle.std.proofs.Common.{◌≡◌, ◌≢◌, ◌∙◌, ◌≤◌, ◌<�
 use Rattle.std.specs.Prelude.{nat_eq, nat_lt, IfNone, IfSome, if◌then◌else◌}
 use Rattle.std.proofs.lemmas.Bool.{eq-eqb, lt-ltb}
 use Rattle.std.proofs.lemmas.Bool.Decides.{nat_tests}
-use Rattle.data_types.specs.FieldText.{form_of}
-use Rattle.data_types.specs.Table.{Flat}
-use Rattle.data_types.specs.Value.{Value, byte_total}
+use Rattle.data_types.specs.promise.FieldText.{form_of}
+use Rattle.data_types.specs.promise.Table.{Flat}
+use Rattle.data_types.specs.promise.Value.{Value, byte_total}
 use Rattle.data_types.specs.declared.kind.DataType.{DataType}
 use Rattle.data_types.specs.declared.kind.DataType.TheVariants as kinds
-use Rattle.tree_model.specs.Tree.{Released, Live, no_trees, more_trees, child_at, children_of}
-use Rattle.raw_array.specs.Members.{ArrayTree}
-use Rattle.col_build.specs.Encoding.{Fits, HasForm, are_bounded, are_within, is_wide}
-use Rattle.data_types.specs.ColumnKinds.{type_of_kind}
-use Rattle.data_types.specs.KindTrees.{KindTree}
-use Rattle.layout_rules.specs.Values.{rows_of}
+use Rattle.tree_model.specs.promise.TreeData.{Released, Live, no_trees, more_trees}
+use Rattle.tree_model.specs.promise.TreeParts.{child_at, children_of}
+use Rattle.raw_array.specs.promise.Members.{ArrayTree}
+use Rattle.col_build.specs.promise.Encoding.{are_within, is_wide}
+use Rattle.col_build.specs.Encoding.{Fits, HasForm, are_bounded}
+use Rattle.data_types.specs.promise.ColumnKinds.{type_of_kind}
+use Rattle.data_types.specs.promise.KindTrees.{KindTree}
+use Rattle.layout_rules.specs.promise.Values.{rows_of}
 use Rattle.array_laws.specs.Items.{IsItemOf}
 use Rattle.list_cols.specs.declared.fault.ListFault.{ListFault}
 use Rattle.list_cols.specs.declared.fault.ListFault.TheVariants.{WrongKind, TooLong, NoMemory}
-use Rattle.list_cols.specs.Exploded.{exploded_kinds}
-use Rattle.list_cols.specs.Faults.{explodes, first_wrong, is_flat_list}
-use Rattle.column_fill.specs.FlatColumns.{is_flat_column}
+use Rattle.list_cols.specs.promise.Exploded.{exploded_kinds}
+use Rattle.list_cols.specs.promise.Faults.{explodes, first_wrong, is_flat_list}
+use Rattle.column_fill.specs.promise.FlatColumns.{is_flat_column}
 use Rattle.list_cols.specs.Listed.{HasTotal}
-use Rattle.list_cols.specs.Nested.{Explode}
+use Rattle.list_cols.specs.promise.Nested.{Explode}
 use Rattle.list_cols.specs.Reaching.{IsHeld, IsLong, IsReached, OffsetsAre, wide_of}
 use Rattle.list_cols.specs.Spreading.{FitsAt, spread_values}
 use Rattle.list_cols.proofs.Chunks.{IsChunk, many-values}

@@ -4,18 +4,21 @@ use Rattle.std.proofs.Math.Seq.{drop-cons, drop-length}
 use Rattle.std.proofs.lemmas.List.{get_or-map, length-map}
 use Rattle.data_types.specs.declared.kind.DataType.{DataType}
 use Rattle.data_types.specs.declared.kind.DataType.TheVariants as kinds
-use Rattle.data_types.specs.Parts.{column_values}
-use Rattle.data_types.specs.Table.{Row}
-use Rattle.data_types.specs.Value.{Value, Null}
+use Rattle.data_types.specs.promise.Parts.{column_values}
+use Rattle.data_types.specs.promise.Table.{Row}
+use Rattle.data_types.specs.promise.Value.{Value, Null}
 use Rattle.col_build.specs.Encoding.{Fits}
-use Rattle.data_types.specs.ColumnKinds.{table_type}
-use Rattle.data_types.specs.KindTrees.{KindTree}
-use Rattle.layout_rules.specs.Values.{rows_of}
-use Rattle.layout_rules.specs.Walk.{ChunkOk}
-use Rattle.arr_export.specs.ArrayTrees.{flat_type, rows_of_values, table_tree}
-use Rattle.arr_export.specs.ValueColumns.{IsValueColumn, ValueColumn, items_of, tree_of, type_of}
+use Rattle.data_types.specs.promise.ColumnKinds.{table_type}
+use Rattle.data_types.specs.promise.KindTrees.{KindTree}
+use Rattle.layout_rules.specs.promise.Values.{rows_of}
+use Rattle.layout_rules.specs.promise.Walk.{ChunkOk}
+use Rattle.arr_export.specs.promise.ArrayTrees.{table_tree}
+use Rattle.arr_export.specs.ArrayTrees.{flat_type, rows_of_values}
+use Rattle.arr_export.specs.promise.ValueColumns.{ValueColumn}
+use Rattle.arr_export.specs.ValueColumns.{IsValueColumn, items_of, tree_of, type_of}
 use Rattle.arr_export.proofs.Each.{each-is}
-use Rattle.list_cols.specs.FlatTables.{columns_from, flat_table, flat_table_type}
+use Rattle.list_cols.specs.promise.FlatTables.{columns_from}
+use Rattle.list_cols.specs.FlatTables.{flat_table, flat_table_type}
 
 -- a row of the columns from one of them on
 row-from : (shapes : List DataType) (k i : ℕ) (rows : List Row) → i < length rows → length (get_or rows i []) ≡ k + length shapes

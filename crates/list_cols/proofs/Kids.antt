@@ -5,17 +5,21 @@ use Rattle.std.proofs.lemmas.Option.{none-some}
 use Rattle.std.proofs.lemmas.List.{length-map}
 use Rattle.std.specs.Prelude.{if◌then◌else◌, is_some}
 use Rattle.data_types.specs.ColumnForms.{HasForm}
-use Rattle.data_types.specs.FieldText.{Form, form_of}
+use Rattle.data_types.specs.promise.FieldText.{Form, form_of}
 use Rattle.data_types.specs.declared.kind.DataType.TheVariants as kinds
-use Rattle.tree_model.specs.Tree.{Depth, Released, Live, IsLive, no_trees, more_trees, absent, present, trees, maybe_tree, children_of, dictionary_of}
+use Rattle.tree_model.specs.promise.TreeData.{Released, Live, no_trees, more_trees, absent, present, trees, maybe_tree}
+use Rattle.tree_model.specs.promise.TreeParts.{IsLive, children_of, dictionary_of}
+use Rattle.tree_model.specs.Tree.{Depth}
 use Rattle.tree_model.proofs.Lists.{tree_list-trees}
 use Rattle.arr_import.proofs.Reading.{kid-tree}
 use Rattle.arr_move.proofs.Filled.{Depth-child_at}
-use Rattle.data_types.specs.KindTrees.{AllNodesOk, KindTree, NodesOk, TypedOk, kind_in}
-use Rattle.data_types.specs.TypedView.{dict_in, kids_of, kind_of, typed_of}
+use Rattle.data_types.specs.promise.KindTrees.{KindTree, kind_in}
+use Rattle.data_types.specs.KindTrees.{AllNodesOk, NodesOk, TypedOk}
+use Rattle.data_types.specs.promise.TypedView.{typed_of}
+use Rattle.data_types.specs.TypedView.{dict_in, kids_of, kind_of}
 use Rattle.data_types.specs.declared.typed.Typed.{Typed, out-Typed}
-use Rattle.list_cols.specs.Faults.{first_wrong, is_flat_list}
-use Rattle.column_fill.specs.FlatColumns.{is_flat_column}
+use Rattle.list_cols.specs.promise.Faults.{first_wrong, is_flat_list}
+use Rattle.column_fill.specs.promise.FlatColumns.{is_flat_column}
 
 -- ---- none is at fault
 

@@ -4,14 +4,14 @@ use Rattle.std.proofs.Common.{length-append, append_assoc}
 use Rattle.std.proofs.lemmas.Bool.{le-ltb, lt-ltb}
 use Rattle.std.proofs.lemmas.List.{get_or-append-add, get_or_append_left}
 use Rattle.std.specs.Prelude.{int_lt}
-use Rattle.data_types.specs.Packed.{le_bytes, meant, number_at}
-use Rattle.data_types.specs.Value.{Value, Null}
-use Rattle.layout_rules.specs.Layout.{offset_in}
-use Rattle.layout_rules.specs.Values.{each}
+use Rattle.data_types.specs.promise.Packed.{le_bytes, meant, number_at}
+use Rattle.data_types.specs.promise.Value.{Value, Null}
+use Rattle.layout_rules.specs.promise.Layout.{offset_in}
+use Rattle.layout_rules.specs.promise.Values.{each}
 use Rattle.arr_export.proofs.Each.{each-is}
 use Rattle.arr_export.proofs.Pieces.{length-le_bytes, length-pieces, number-there}
-use Rattle.data_types.specs.Groups.{sums_from}
-use Rattle.list_cols.specs.ListTrees.{joined, list_lengths, list_offsets}
+use Rattle.data_types.specs.promise.Groups.{sums_from}
+use Rattle.list_cols.specs.promise.ListTrees.{joined, list_lengths, list_offsets}
 
 pub length-lengths : (lists : List (List Value)) → length (list_lengths lists) ≡ length lists
 length-lengths [] = refl

@@ -1,29 +1,32 @@
 -- The field of a list in the schema of a chunk, and the trees that are made.
 use Rattle.std.proofs.Common.{◌≡◌, ◌∙◌, ◌≤◌, ◌<◌, ◌^◌, ℕ, zero, suc, true, All, List, length, get_or, None, refl, ap, sym, subst, arith}
 use Rattle.std.proofs.lemmas.Option.{none-some}
-use Rattle.data_types.specs.FieldText.{form_of}
+use Rattle.data_types.specs.promise.FieldText.{form_of}
 use Rattle.data_types.specs.ColumnForms.{HasForm}
-use Rattle.data_types.specs.Parts.{column_values}
-use Rattle.data_types.specs.Table.{Flat, Row}
+use Rattle.data_types.specs.promise.Parts.{column_values}
+use Rattle.data_types.specs.promise.Table.{Flat, Row}
 use Rattle.data_types.specs.declared.kind.DataType.{DataType}
 use Rattle.data_types.specs.declared.kind.DataType.TheVariants as kinds
-use Rattle.tree_model.specs.Tree.{Released, Live, Trees, no_trees, more_trees, absent, present, tree_list, child_at, children_of, dictionary_of, IsLive}
-use Rattle.raw_array.specs.Members.{ArrayTree}
-use Rattle.raw_schema.specs.Members.{SchemaMembers, SchemaTree}
+use Rattle.tree_model.specs.promise.TreeData.{Released, Live, Trees, no_trees, more_trees, absent, present, tree_list}
+use Rattle.tree_model.specs.promise.TreeParts.{child_at, children_of, dictionary_of, IsLive}
+use Rattle.raw_array.specs.promise.Members.{ArrayTree}
+use Rattle.raw_schema.specs.promise.Members.{SchemaMembers, SchemaTree}
 use Rattle.col_build.specs.Encoding.{Fits}
 use Rattle.arr_move.proofs.Filled.{Depth-child_at}
-use Rattle.data_types.specs.ColumnKinds.{type_of_kind}
-use Rattle.data_types.specs.KindTrees.{AllNodesOk, KindTree, NodesOk, TypedOk, kind_in}
-use Rattle.layout_rules.specs.Values.{rows_of}
-use Rattle.layout_rules.specs.Walk.{ChunkOk}
-use Rattle.schema_check.specs.Schemas.{KidsTyped, TypedFrom, TypedOf}
+use Rattle.data_types.specs.promise.ColumnKinds.{type_of_kind}
+use Rattle.data_types.specs.promise.KindTrees.{KindTree, kind_in}
+use Rattle.data_types.specs.KindTrees.{AllNodesOk, NodesOk, TypedOk}
+use Rattle.layout_rules.specs.promise.Values.{rows_of}
+use Rattle.layout_rules.specs.promise.Walk.{ChunkOk}
+use Rattle.schema_check.specs.promise.Schemas.{KidsTyped, TypedFrom, TypedOf}
 use Rattle.arr_export.specs.ArrayTrees.{flat_type}
-use Rattle.list_cols.specs.Exploded.{exploded_array, exploded_kinds, exploded_type, item_kind}
-use Rattle.list_cols.specs.Faults.{explodes, first_wrong}
-use Rattle.column_fill.specs.FlatColumns.{is_flat_column}
+use Rattle.list_cols.specs.promise.Exploded.{exploded_kinds, item_kind}
+use Rattle.list_cols.specs.Exploded.{exploded_array, exploded_type}
+use Rattle.list_cols.specs.promise.Faults.{explodes, first_wrong}
+use Rattle.column_fill.specs.promise.FlatColumns.{is_flat_column}
 use Rattle.list_cols.specs.Fields.{HasList, exploded_schema, item_field}
 use Rattle.list_cols.specs.FlatTables.{flat_table, flat_table_type}
-use Rattle.list_cols.specs.Nested.{Explode}
+use Rattle.list_cols.specs.promise.Nested.{Explode}
 use Rattle.list_cols.specs.Spreading.{AllFit}
 use Rattle.list_cols.proofs.Chunks.{IsChunk, many-kinds, rows-wide}
 use Rattle.list_cols.proofs.FieldTypes.{IsFlatType, item-live, item-typed, list-live, spread-typed}

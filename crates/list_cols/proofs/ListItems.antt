@@ -2,18 +2,19 @@
 use Rattle.std.proofs.Common.{◌≡◌, ◌∙◌, ◌≤◌, ◌<◌, ◌+◌, ◌-◌, ℕ, zero, suc, Bool, true, false, List, [], ◌∷◌, ◌++◌, All, refl, ap, sym, subst, inr, arith}
 use Rattle.std.specs.Prelude.{if◌then◌else◌}
 use Rattle.std.specs.List.{flat_map}
-use Rattle.data_types.specs.Parts.{value_list}
-use Rattle.data_types.specs.Value.{Value, Null, Items, values}
+use Rattle.data_types.specs.promise.Parts.{value_list}
+use Rattle.data_types.specs.promise.Value.{Value, Null, Items, values}
 use Rattle.data_types.specs.declared.kind.DataType.TheVariants as kinds
-use Rattle.tree_model.specs.Tree.{Released, Live, no_trees, more_trees, absent, child_at, tree_list}
-use Rattle.raw_array.specs.Members.{ArrayTree}
-use Rattle.data_types.specs.KindTrees.{KindTree}
-use Rattle.layout_rules.specs.Layout.{first, is_valid, natural, offset}
+use Rattle.tree_model.specs.promise.TreeData.{Released, Live, no_trees, more_trees, absent, tree_list}
+use Rattle.tree_model.specs.promise.TreeParts.{child_at}
+use Rattle.raw_array.specs.promise.Members.{ArrayTree}
+use Rattle.data_types.specs.promise.KindTrees.{KindTree}
+use Rattle.layout_rules.specs.promise.Layout.{first, is_valid, natural, offset}
 use Rattle.layout_rules.specs.Lawful.{ItemsHold, RootHolds}
-use Rattle.layout_rules.specs.Values.{child_item, each, tree_items, value_at}
+use Rattle.layout_rules.specs.promise.Values.{child_item, each, tree_items, value_at}
 use Rattle.array_laws.specs.Items.{IsItemOf}
 use Rattle.arr_import.specs.Window.{Window, items_of}
-use Rattle.list_cols.specs.Nested.{items_in}
+use Rattle.list_cols.specs.promise.Nested.{items_in}
 
 pub values-back : (vs : List Value) → value_list (values vs) ≡ vs
 values-back [] = refl

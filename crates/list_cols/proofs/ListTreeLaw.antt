@@ -7,25 +7,27 @@ use Rattle.std.specs.Prelude.{if◌then◌else◌, int_lt, nat_lt, ◌==◌, ◌
 use Rattle.std.specs.Ordering.{int_eq}
 use Rattle.data_types.specs.declared.kind.DataType.{DataType}
 use Rattle.data_types.specs.declared.kind.DataType.TheVariants as kinds
-use Rattle.data_types.specs.Value.{Value, Null, Items, values}
-use Rattle.tree_model.specs.Tree.{absent, trees}
-use Rattle.raw_array.specs.Members.{ArrayMembers, ArrayTree}
-use Rattle.data_types.specs.Ways.{Steps}
-use Rattle.layout_rules.specs.Layout.{end, natural, offset_in, offsets_need}
-use Rattle.layout_rules.specs.Rules.{Node, fault, fault_if, first_below, in_order, is_negative, null_total, offset_falls, offsets_fall, short_child}
-use Rattle.layout_rules.specs.Values.{each, tree_items, value_at, values_of}
-use Rattle.layout_rules.specs.Walk.{LayoutOk, node_fault, node_of, first_some, visit_fault, visits, walk_children, walks_of}
+use Rattle.data_types.specs.promise.Value.{Value, Null, Items, values}
+use Rattle.tree_model.specs.promise.TreeData.{absent, trees}
+use Rattle.raw_array.specs.promise.Members.{ArrayMembers, ArrayTree}
+use Rattle.data_types.specs.promise.Ways.{Steps}
+use Rattle.layout_rules.specs.promise.Layout.{end, natural, offset_in, offsets_need}
+use Rattle.layout_rules.specs.promise.Rules.{Node, fault, fault_if, first_below, in_order, is_negative, null_total, offset_falls, offsets_fall, short_child}
+use Rattle.layout_rules.specs.promise.Values.{each, tree_items, value_at, values_of}
+use Rattle.layout_rules.specs.promise.Walk.{LayoutOk, node_fault, node_of, first_some, visit_fault, visits, walk_children, walks_of}
 use Rattle.layout_rules.specs.declared.rule.Numbers.{Numbers}
 use Rattle.layout_rules.proofs.Lawful.{first_fault-lawful, lawful-first_fault}
-use Rattle.arr_export.specs.ArrayTrees.{column_tree, flat_type}
+use Rattle.arr_export.specs.promise.ArrayTrees.{column_tree}
+use Rattle.arr_export.specs.ArrayTrees.{flat_type}
 use Rattle.arr_export.proofs.ColumnLaw.{column-lawful, column-values}
 use Rattle.arr_export.proofs.Each.{each-is, length-each, value-there}
 use Rattle.layout_rules.specs.declared.rule.LayoutRule.TheVariants as rules
 use Rattle.layout_rules.proofs.NamedRules.{AreMet, none-fails}
 use Rattle.arr_export.proofs.NodeRules.{below-none, both-none, no-fault}
 use Rattle.arr_export.proofs.Steady.{first_some-append, steady}
-use Rattle.data_types.specs.Groups.{sums_from}
-use Rattle.list_cols.specs.ListTrees.{FitLists, joined, list_kind, list_lengths, list_members, list_offsets, list_tree, list_value}
+use Rattle.data_types.specs.promise.Groups.{sums_from}
+use Rattle.list_cols.specs.promise.ListTrees.{joined, list_lengths, list_members, list_offsets, list_tree}
+use Rattle.list_cols.specs.ListTrees.{FitLists, list_kind, list_value}
 use Rattle.list_cols.proofs.ListEnds.{between-ends, length-offsets, offset-first, offset-is, offset-last, offsets-rise}
 
 from-start : (i : ℕ) → 0 + i ≡ i

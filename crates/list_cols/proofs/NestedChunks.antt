@@ -2,27 +2,30 @@
 use Rattle.std.proofs.Common.{◌≡◌, ◌≤◌, ◌<◌, ◌+◌, ◌^◌, ℕ, List, length, map, get_or, None, ap, sym, subst, arith}
 use Rattle.std.proofs.lemmas.List.{get_or-map, length-map}
 use Rattle.data_types.specs.ColumnForms.{HasForm}
-use Rattle.data_types.specs.FieldText.{form_of}
-use Rattle.data_types.specs.Parts.{column_values}
-use Rattle.data_types.specs.Table.{Flat}
-use Rattle.data_types.specs.Value.{Value, Null}
+use Rattle.data_types.specs.promise.FieldText.{form_of}
+use Rattle.data_types.specs.promise.Parts.{column_values}
+use Rattle.data_types.specs.promise.Table.{Flat}
+use Rattle.data_types.specs.promise.Value.{Value, Null}
 use Rattle.data_types.specs.declared.kind.DataType.{DataType}
 use Rattle.data_types.specs.declared.kind.DataType.TheVariants as kinds
-use Rattle.tree_model.specs.Tree.{Released, IsLive, child_at, children_of, dictionary_of}
-use Rattle.raw_array.specs.Members.{ArrayTree, members_of}
+use Rattle.tree_model.specs.promise.TreeData.{Released}
+use Rattle.tree_model.specs.promise.TreeParts.{IsLive, child_at, children_of, dictionary_of}
+use Rattle.raw_array.specs.promise.Members.{ArrayTree, members_of}
 use Rattle.col_build.specs.Encoding.{Fits}
-use Rattle.data_types.specs.ColumnKinds.{type_of_kind}
-use Rattle.data_types.specs.KindTrees.{KindTree, TypedOk, kind_in}
-use Rattle.layout_rules.specs.Layout.{first}
-use Rattle.layout_rules.specs.Values.{row_items, rows_of, tree_items, value_at}
-use Rattle.layout_rules.specs.Walk.{LayoutOk}
+use Rattle.data_types.specs.promise.ColumnKinds.{type_of_kind}
+use Rattle.data_types.specs.promise.KindTrees.{KindTree, kind_in}
+use Rattle.data_types.specs.KindTrees.{TypedOk}
+use Rattle.layout_rules.specs.promise.Layout.{first}
+use Rattle.layout_rules.specs.promise.Values.{row_items, rows_of, tree_items, value_at}
+use Rattle.layout_rules.specs.promise.Walk.{LayoutOk}
 use Rattle.column_fill.specs.Gathered.{values_at}
-use Rattle.data_types.specs.Groups.{distinct, order_of}
+use Rattle.data_types.specs.promise.Groups.{distinct}
+use Rattle.data_types.specs.Groups.{order_of}
 use Rattle.row_groups.specs.Items.{items_from}
 use Rattle.list_cols.specs.ListTrees.{FitLists}
-use Rattle.list_cols.specs.NestFaults.{nests}
+use Rattle.list_cols.specs.promise.NestFaults.{nests}
 use Rattle.list_cols.specs.NestedGroups.{CanNest, grouped_lists, row_keys}
-use Rattle.list_cols.specs.NestedTables.{kind_at, lists_of}
+use Rattle.list_cols.specs.promise.NestedTables.{kind_at, lists_of}
 use Rattle.list_cols.proofs.Chunks.{ItemsLaw, PartsLaw, RootLaw, TopLaw, chunk-is, near, reaches, row-item}
 use Rattle.list_cols.proofs.Kids.{flat-dictionary, flat-form, none-wrong}
 use Rattle.list_cols.proofs.NestedRows.{all-lists, column-each, few-distinct, key-values, many-lists}

@@ -2,24 +2,25 @@
 use Rattle.std.proofs.Common.{◌≡◌, ◌∙◌, ◌≤◌, ◌<◌, ◌+◌, ℕ, List, [], ◌∷◌, All, length, map, None, ap, sym, subst, arith}
 use Rattle.std.proofs.lemmas.List.Elements.{All-weaker}
 use Rattle.std.specs.List.{flat_map}
-use Rattle.data_types.specs.Packed.{le_bytes}
+use Rattle.data_types.specs.promise.Packed.{le_bytes}
 use Rattle.data_types.specs.ColumnForms.{HasForm}
-use Rattle.data_types.specs.FieldText.{form_of}
-use Rattle.data_types.specs.Table.{Flat}
-use Rattle.data_types.specs.Value.{Value}
+use Rattle.data_types.specs.promise.FieldText.{form_of}
+use Rattle.data_types.specs.promise.Table.{Flat}
+use Rattle.data_types.specs.promise.Value.{Value}
 use Rattle.data_types.specs.declared.kind.DataType.{DataType}
-use Rattle.tree_model.specs.Tree.{Live, absent, trees}
-use Rattle.raw_array.specs.Members.{ArrayTree}
+use Rattle.tree_model.specs.promise.TreeData.{Live, absent, trees}
+use Rattle.raw_array.specs.promise.Members.{ArrayTree}
 use Rattle.col_build.specs.Encoding.{Fits}
-use Rattle.data_types.specs.ColumnKinds.{type_of_kind}
-use Rattle.data_types.specs.KindTrees.{KindTree}
-use Rattle.layout_rules.specs.Values.{tree_items, value_at}
-use Rattle.layout_rules.specs.Walk.{LayoutOk}
+use Rattle.data_types.specs.promise.ColumnKinds.{type_of_kind}
+use Rattle.data_types.specs.promise.KindTrees.{KindTree}
+use Rattle.layout_rules.specs.promise.Values.{tree_items, value_at}
+use Rattle.layout_rules.specs.promise.Walk.{LayoutOk}
 use Rattle.array_laws.specs.Items.{AreApart}
-use Rattle.arr_export.specs.ArrayTrees.{column_tree}
+use Rattle.arr_export.specs.promise.ArrayTrees.{column_tree}
 use Rattle.column_fill.specs.Gathered.{CanGather, values_at}
-use Rattle.data_types.specs.Groups.{distinct, offsets_of, order_of, sums_from}
-use Rattle.list_cols.specs.ListTrees.{list_members, list_tree}
+use Rattle.data_types.specs.promise.Groups.{distinct, sums_from}
+use Rattle.data_types.specs.Groups.{offsets_of, order_of}
+use Rattle.list_cols.specs.promise.ListTrees.{list_members, list_tree}
 use Rattle.list_cols.specs.NestedGroups.{grouped_lists}
 use Rattle.list_cols.proofs.NestedRows.{all-lists, lists-lengths, many-lists}
 

@@ -6,31 +6,37 @@ use Rattle.std.proofs.lemmas.List.Elements.{All-map, All-weaker}
 use Rattle.std.specs.List.{position_or_len}
 use Rattle.std.specs.Prelude.{if◌then◌else◌, nat_lt, ◌==◌, Bool}
 use Rattle.data_types.specs.ColumnForms.{HasForm}
-use Rattle.data_types.specs.FieldText.{form_of}
-use Rattle.data_types.specs.Table.{Flat}
-use Rattle.data_types.specs.Value.{Value, Null}
+use Rattle.data_types.specs.promise.FieldText.{form_of}
+use Rattle.data_types.specs.promise.Table.{Flat}
+use Rattle.data_types.specs.promise.Value.{Value, Null}
 use Rattle.data_types.specs.declared.kind.DataType.{DataType}
-use Rattle.tree_model.specs.Tree.{Released, child_at, children_of}
-use Rattle.raw_array.specs.Members.{ArrayTree, members_of}
+use Rattle.tree_model.specs.promise.TreeData.{Released}
+use Rattle.tree_model.specs.promise.TreeParts.{child_at, children_of}
+use Rattle.raw_array.specs.promise.Members.{ArrayTree, members_of}
 use Rattle.col_build.specs.Encoding.{Fits}
-use Rattle.data_types.specs.ColumnKinds.{type_of_kind}
-use Rattle.data_types.specs.KindTrees.{KindTree, TypedOk, kind_in}
-use Rattle.data_types.specs.TypedView.{kids_of, kind_of, typed_of}
+use Rattle.data_types.specs.promise.ColumnKinds.{type_of_kind}
+use Rattle.data_types.specs.promise.KindTrees.{KindTree, kind_in}
+use Rattle.data_types.specs.KindTrees.{TypedOk}
+use Rattle.data_types.specs.promise.TypedView.{typed_of}
+use Rattle.data_types.specs.TypedView.{kids_of, kind_of}
 use Rattle.data_types.specs.declared.typed.Typed.{Typed, out-Typed}
-use Rattle.layout_rules.specs.Layout.{first}
-use Rattle.layout_rules.specs.Values.{row_items, rows_of, tree_items, value_at}
-use Rattle.layout_rules.specs.Walk.{LayoutOk}
-use Rattle.arr_export.specs.ArrayTrees.{column_tree}
+use Rattle.layout_rules.specs.promise.Layout.{first}
+use Rattle.layout_rules.specs.promise.Values.{row_items, rows_of, tree_items, value_at}
+use Rattle.layout_rules.specs.promise.Walk.{LayoutOk}
+use Rattle.arr_export.specs.promise.ArrayTrees.{column_tree}
 use Rattle.arr_export.proofs.Each.{length-each}
 use Rattle.array_laws.specs.Items.{AreApart}
 use Rattle.column_fill.specs.Gathered.{CanGather, CanGatherRuns, values_at, values_of_runs}
 use Rattle.column_fill.specs.declared.runs.Run.{Run}
-use Rattle.data_types.specs.Groups.{distinct, firsts_of, offsets_of, order_of, same as same_as}
+use Rattle.data_types.specs.promise.Groups.{distinct, same as same_as}
+use Rattle.data_types.specs.Groups.{firsts_of, offsets_of, order_of}
 use Rattle.row_groups.specs.Items.{items_from}
 use Rattle.row_groups.specs.declared.groups.Groups.{Groups}
-use Rattle.list_cols.specs.ListTrees.{FitLists, list_tree}
+use Rattle.list_cols.specs.promise.ListTrees.{list_tree}
+use Rattle.list_cols.specs.ListTrees.{FitLists}
 use Rattle.list_cols.specs.NestedGroups.{AreFirsts, AreGroups, AreRowGroups, CanNest, HasItems, grouped_lists, row_keys, run_at}
-use Rattle.list_cols.specs.NestedTables.{FitColumn, keys_of, kind_at, lists_of, nested_column}
+use Rattle.list_cols.specs.promise.NestedTables.{keys_of, kind_at, lists_of, nested_column}
+use Rattle.list_cols.specs.NestedTables.{FitColumn}
 use Rattle.list_cols.proofs.Kids.{IsLevel, kid-is, kid-ok, kids-are, level-live}
 use Rattle.list_cols.proofs.Chunks.{ItemsLaw, PartsLaw, RootLaw, TopLaw}
 use Rattle.list_cols.proofs.NestedChunks.{FlatLaw, IsFlatKid, flat-kid, kid-lists, kid-values, lists-fit}

@@ -4,22 +4,25 @@ use Rattle.std.proofs.lemmas.Bool.{eqb-false, eqb-true}
 use Rattle.std.proofs.lemmas.List.{get_or-map, length-map, map-id}
 use Rattle.std.specs.Prelude.{if◌then◌else◌, ◌==◌}
 use Rattle.data_types.specs.declared.kind.DataType.{DataType}
-use Rattle.data_types.specs.Parts.{column_values}
-use Rattle.data_types.specs.Table.{Row}
-use Rattle.data_types.specs.Value.{Value, Null, Items, values}
-use Rattle.tree_model.specs.Tree.{IsLive}
-use Rattle.raw_array.specs.Members.{ArrayTree}
+use Rattle.data_types.specs.promise.Parts.{column_values}
+use Rattle.data_types.specs.promise.Table.{Row}
+use Rattle.data_types.specs.promise.Value.{Value, Null, Items, values}
+use Rattle.tree_model.specs.promise.TreeParts.{IsLive}
+use Rattle.raw_array.specs.promise.Members.{ArrayTree}
 use Rattle.col_build.specs.Encoding.{Fits}
-use Rattle.data_types.specs.KindTrees.{KindTree}
-use Rattle.layout_rules.specs.Values.{each, rows_of, tree_items, values_of}
-use Rattle.layout_rules.specs.Walk.{ChunkOk, LayoutOk}
-use Rattle.arr_export.specs.ArrayTrees.{AreLawful, HaveValues, column_tree, flat_type, rows_of_values}
+use Rattle.data_types.specs.promise.KindTrees.{KindTree}
+use Rattle.layout_rules.specs.promise.Values.{each, rows_of, tree_items, values_of}
+use Rattle.layout_rules.specs.promise.Walk.{ChunkOk, LayoutOk}
+use Rattle.arr_export.specs.promise.ArrayTrees.{column_tree}
+use Rattle.arr_export.specs.ArrayTrees.{AreLawful, HaveValues, flat_type, rows_of_values}
 use Rattle.arr_export.proofs.ColumnLaw.{column-lawful, column-values}
 use Rattle.arr_export.proofs.Each.{each-is, each-same}
 use Rattle.arr_export.proofs.TableLaw.{table-chunk, table-values}
-use Rattle.list_cols.specs.ListTrees.{FitLists, list_kind, list_tree, list_value}
-use Rattle.list_cols.specs.Nested.{Nest, nested_value, rows_with}
-use Rattle.list_cols.specs.NestedTables.{FitNested, keys_of, kind_at, lists_of, nested_column, nested_kind, nested_table, nested_table_type}
+use Rattle.list_cols.specs.promise.ListTrees.{list_tree}
+use Rattle.list_cols.specs.ListTrees.{FitLists, list_kind, list_value}
+use Rattle.list_cols.specs.promise.Nested.{Nest, nested_value, rows_with}
+use Rattle.list_cols.specs.promise.NestedTables.{keys_of, kind_at, lists_of, nested_column, nested_table}
+use Rattle.list_cols.specs.NestedTables.{FitNested, nested_kind, nested_table_type}
 use Rattle.list_cols.proofs.ListTreeLaw.{list-lawful, list-values}
 
 pub map-each : {X Y : Type 0} → (f : X → Y) (g : ℕ → X) (a n : ℕ) → map f (each g a n) ≡ each (λ i. f (g i)) a n

@@ -1,10 +1,14 @@
 -- Lists over fields, beside a place that is released.
 use Rattle.std.proofs.Common.{◌≡◌, ◌∙◌, ◌≤◌, ◌<◌, ◌+◌, ℕ, zero, suc, List, [], ◌∷◌, ◌++◌, Bool, true, false, length, get_or, refl, ap, sym, arith}
 use Rattle.std.specs.Prelude.{if◌then◌else◌, ◌==◌}
-use Rattle.tree_model.specs.Tree.{Depth, Released, child_at, children_of, depth_of_all, trees}
-use Rattle.raw_schema.specs.Members.{Nodes, SchemaTree, nodes_of_all}
+use Rattle.tree_model.specs.promise.TreeData.{Released, trees}
+use Rattle.tree_model.specs.promise.TreeParts.{child_at, children_of}
+use Rattle.tree_model.specs.Tree.{Depth, depth_of_all}
+use Rattle.tree_model.specs.promise.TreeCost.{Nodes}
+use Rattle.raw_schema.specs.promise.Members.{SchemaTree}
+use Rattle.raw_schema.specs.Members.{nodes_of_all}
 use Rattle.arr_move.specs.Fields.{fields_over, new_or_old}
-use Rattle.layout_rules.specs.Values.{each}
+use Rattle.layout_rules.specs.promise.Values.{each}
 use Rattle.list_cols.specs.NestedFields.{list_field, nested_field, new_field}
 
 low-if : (b : Bool) (field : SchemaTree) → Depth (if b then Released else list_field field) ≤ 2

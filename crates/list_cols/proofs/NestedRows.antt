@@ -3,16 +3,17 @@ use Rattle.std.proofs.Common.{◌≡◌, ◌∙◌, ◌≤◌, ℕ, zero, suc, B
 use Rattle.std.proofs.lemmas.List.{length-map, map-append}
 use Rattle.std.specs.List.{flat_map, list_any}
 use Rattle.std.specs.Prelude.{if◌then◌else◌}
-use Rattle.data_types.specs.Parts.{column_values}
-use Rattle.data_types.specs.Table.{Row}
-use Rattle.data_types.specs.Value.{Value, Null}
-use Rattle.raw_array.specs.Members.{ArrayTree}
-use Rattle.data_types.specs.KindTrees.{KindTree}
-use Rattle.layout_rules.specs.Values.{each}
+use Rattle.data_types.specs.promise.Parts.{column_values}
+use Rattle.data_types.specs.promise.Table.{Row}
+use Rattle.data_types.specs.promise.Value.{Value, Null}
+use Rattle.raw_array.specs.promise.Members.{ArrayTree}
+use Rattle.data_types.specs.promise.KindTrees.{KindTree}
+use Rattle.layout_rules.specs.promise.Values.{each}
 use Rattle.column_fill.specs.Gathered.{values_at}
-use Rattle.data_types.specs.Groups.{distinct, distinct_behind, order_of, places, places_of, same}
-use Rattle.list_cols.specs.ListTrees.{joined, list_lengths}
-use Rattle.list_cols.specs.Nested.{rows_with}
+use Rattle.data_types.specs.promise.Groups.{distinct, distinct_behind, same}
+use Rattle.data_types.specs.Groups.{order_of, places, places_of}
+use Rattle.list_cols.specs.promise.ListTrees.{joined, list_lengths}
+use Rattle.list_cols.specs.promise.Nested.{rows_with}
 use Rattle.list_cols.specs.NestedGroups.{grouped_lists}
 
 -- ---- rows by their numbers

@@ -1,16 +1,19 @@
 -- What the schema of a chunk is that can be grouped, and which fault its rows have.
 use Rattle.std.proofs.Common.{◌≡◌, ◌∙◌, ◌<◌, ◌⊎◌, inl, inr, ℕ, zero, suc, List, Bool, true, false, length, get_or, Option, None, Some, refl, ap, sym, subst, arith}
 use Rattle.std.proofs.lemmas.Option.{none-some}
-use Rattle.data_types.specs.Table.{Flat, Row}
+use Rattle.data_types.specs.promise.Table.{Flat, Row}
 use Rattle.data_types.specs.declared.kind.DataType.{DataType}
-use Rattle.tree_model.specs.Tree.{IsLive, Released, Live, Trees, no_trees, more_trees, absent, present, tree_list, child_at, children_of, dictionary_of}
+use Rattle.tree_model.specs.promise.TreeParts.{IsLive, child_at, children_of, dictionary_of}
+use Rattle.tree_model.specs.promise.TreeData.{Released, Live, Trees, no_trees, more_trees, absent, present, tree_list}
 use Rattle.arr_move.proofs.Filled.{Depth-child_at}
-use Rattle.raw_schema.specs.Members.{SchemaMembers, SchemaTree}
-use Rattle.data_types.specs.ColumnKinds.{type_of_kind}
-use Rattle.data_types.specs.KindTrees.{AllNodesOk, KindTree, NodesOk, TypedOk, kind_in}
-use Rattle.schema_check.specs.Schemas.{KidsTyped, TypedOf}
-use Rattle.list_cols.specs.Faults.{IsRefusedBy, fault_of, first_wrong}
-use Rattle.list_cols.specs.NestFaults.{is_nest_too_long, nest_fault, nests}
+use Rattle.raw_schema.specs.promise.Members.{SchemaMembers, SchemaTree}
+use Rattle.data_types.specs.promise.ColumnKinds.{type_of_kind}
+use Rattle.data_types.specs.promise.KindTrees.{KindTree, kind_in}
+use Rattle.data_types.specs.KindTrees.{AllNodesOk, NodesOk, TypedOk}
+use Rattle.schema_check.specs.promise.Schemas.{KidsTyped, TypedOf}
+use Rattle.list_cols.specs.promise.Faults.{fault_of, first_wrong}
+use Rattle.list_cols.specs.Faults.{IsRefusedBy}
+use Rattle.list_cols.specs.promise.NestFaults.{is_nest_too_long, nest_fault, nests}
 use Rattle.list_cols.specs.declared.fault.ListFault.{ListFault}
 use Rattle.list_cols.specs.declared.fault.ListFault.TheVariants.{WrongKind, TooLong, NoMemory}
 use Rattle.list_cols.proofs.Kids.{flat-dictionary, flat-form, none-wrong}

@@ -5,18 +5,20 @@ use Rattle.std.proofs.lemmas.Option.{none-some}
 use Rattle.std.specs.Prelude.{if◌then◌else◌, ◌==◌}
 use Rattle.data_types.specs.declared.kind.DataType.{DataType}
 use Rattle.data_types.specs.declared.kind.DataType.TheVariants as kinds
-use Rattle.fmt_string.specs.FormatString.{FormatIs}
-use Rattle.tree_model.specs.Tree.{Released, Live, Trees, no_trees, more_trees, absent, present, trees, tree_list, child_at, children_of, dictionary_of}
+use Rattle.fmt_string.specs.promise.FormatString.{FormatIs}
+use Rattle.tree_model.specs.promise.TreeData.{Released, Live, Trees, no_trees, more_trees, absent, present, trees, tree_list}
+use Rattle.tree_model.specs.promise.TreeParts.{child_at, children_of, dictionary_of}
 use Rattle.tree_model.proofs.Lists.{trees-tree_list}
-use Rattle.raw_schema.specs.Members.{SchemaMembers, SchemaTree}
-use Rattle.data_types.specs.KindTrees.{KindTree, kind_in}
-use Rattle.layout_rules.specs.Values.{each}
-use Rattle.schema_check.specs.Schemas.{KidsTyped, NodeIs, TypedFrom, TypedOf}
+use Rattle.raw_schema.specs.promise.Members.{SchemaMembers, SchemaTree}
+use Rattle.data_types.specs.promise.KindTrees.{KindTree, kind_in}
+use Rattle.layout_rules.specs.promise.Values.{each}
+use Rattle.schema_check.specs.promise.Schemas.{KidsTyped, NodeIs, TypedFrom, TypedOf}
 use Rattle.arr_export.specs.ArrayTrees.{flat_type}
 use Rattle.list_cols.specs.Fields.{renamed_field}
 use Rattle.list_cols.specs.ListTrees.{list_kind}
 use Rattle.list_cols.specs.NestedFields.{item_name, list_field, list_format, nested_field, nested_schema}
-use Rattle.list_cols.specs.NestedTables.{kind_at, nested_kind, nested_type}
+use Rattle.list_cols.specs.promise.NestedTables.{kind_at}
+use Rattle.list_cols.specs.NestedTables.{nested_kind, nested_type}
 use Rattle.list_cols.proofs.FieldTypes.{IsFlatType}
 
 module _ (spelled : FormatIs list_format (kinds.List false)) where

@@ -3,20 +3,22 @@ use Rattle.std.proofs.Common.{◌≡◌, ◌∙◌, ◌≤◌, ◌<◌, ◌+◌,
 use Rattle.std.proofs.lemmas.Bool.{le-ltb, lt-ltb}
 use Rattle.std.proofs.lemmas.List.{length-map}
 use Rattle.std.specs.Prelude.{if◌then◌else◌, nat_lt, ◌==◌, ◌&&◌, ◌||◌}
-use Rattle.data_types.specs.Parts.{column_values}
-use Rattle.data_types.specs.Table.{Row}
+use Rattle.data_types.specs.promise.Parts.{column_values}
+use Rattle.data_types.specs.promise.Table.{Row}
 use Rattle.data_types.specs.declared.kind.DataType.{DataType}
-use Rattle.data_types.specs.Value.{Value, Null}
-use Rattle.tree_model.specs.Tree.{children_of}
-use Rattle.raw_array.specs.Members.{ArrayTree}
-use Rattle.data_types.specs.KindTrees.{KindTree, kind_in}
-use Rattle.layout_rules.specs.Values.{each, row_items, rows_of, tree_items}
-use Rattle.arr_export.specs.ArrayTrees.{IsColumn, column_tree, table_tree}
+use Rattle.data_types.specs.promise.Value.{Value, Null}
+use Rattle.tree_model.specs.promise.TreeParts.{children_of}
+use Rattle.raw_array.specs.promise.Members.{ArrayTree}
+use Rattle.data_types.specs.promise.KindTrees.{KindTree, kind_in}
+use Rattle.layout_rules.specs.promise.Values.{each, row_items, rows_of, tree_items}
+use Rattle.arr_export.specs.promise.ArrayTrees.{column_tree, table_tree}
+use Rattle.arr_export.specs.ArrayTrees.{IsColumn}
 use Rattle.arr_export.proofs.Each.{length-each}
-use Rattle.list_cols.specs.Faults.{most_named}
-use Rattle.list_cols.specs.ListTrees.{list_tree}
-use Rattle.list_cols.specs.NestFaults.{is_nest_too_long}
-use Rattle.list_cols.specs.NestedTables.{FitColumn, FitNested, keys_of, kind_at, lists_of, nested_array, nested_column}
+use Rattle.list_cols.specs.promise.Faults.{most_named}
+use Rattle.list_cols.specs.promise.ListTrees.{list_tree}
+use Rattle.list_cols.specs.promise.NestFaults.{is_nest_too_long}
+use Rattle.list_cols.specs.promise.NestedTables.{keys_of, kind_at, lists_of, nested_array, nested_column}
+use Rattle.list_cols.specs.NestedTables.{FitColumn, FitNested}
 use Rattle.list_cols.proofs.NestedLaw.{all-each, nested-length}
 use Rattle.list_cols.proofs.NestedRows.{few-distinct}
 

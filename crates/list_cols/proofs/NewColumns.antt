@@ -2,23 +2,26 @@
 use Rattle.std.proofs.Common.{◌≡◌, ◌∙◌, ◌≤◌, ◌<◌, ◌+◌, ℕ, zero, suc, List, [], ◌∷◌, ◌++◌, All, length, map, take, get_or, None, Result, Ok, Err, refl, ap, arith}
 use Rattle.std.specs.Prelude.{IfOk, MatchResult, OnErr, OnOk}
 use Rattle.std.proofs.lemmas.List.{length-map, map-append, take_more}
-use Rattle.data_types.specs.Parts.{column_values}
-use Rattle.data_types.specs.Table.{Row}
-use Rattle.data_types.specs.Value.{Value, Null}
+use Rattle.data_types.specs.promise.Parts.{column_values}
+use Rattle.data_types.specs.promise.Table.{Row}
+use Rattle.data_types.specs.promise.Value.{Value, Null}
 use Rattle.data_types.specs.declared.kind.DataType.{DataType}
 use Rattle.data_types.specs.declared.kind.DataType.TheVariants as kinds
-use Rattle.raw_array.specs.Members.{ArrayTree, Cost, cost_of_all, holds}
+use Rattle.raw_array.specs.promise.Members.{ArrayTree, Cost, holds}
+use Rattle.raw_array.specs.Members.{cost_of_all}
 use Rattle.tree_model.proofs.Measures.{cost_of_all-append}
-use Rattle.tree_model.specs.Tree.{trees}
-use Rattle.col_build.specs.Finished.{blocks_of}
+use Rattle.tree_model.specs.promise.TreeData.{trees}
+use Rattle.col_build.specs.promise.Finished.{blocks_of}
 use Rattle.col_build.specs.Holding.{Holds}
 use Rattle.col_build.specs.declared.builder.Builder.{Builder}
-use Rattle.arr_export.specs.ArrayTrees.{IsColumn, column_tree}
-use Rattle.arr_export.specs.ValueColumns.{ValueColumn, tree_of}
+use Rattle.arr_export.specs.promise.ArrayTrees.{column_tree}
+use Rattle.arr_export.specs.ArrayTrees.{IsColumn}
+use Rattle.arr_export.specs.promise.ValueColumns.{ValueColumn}
+use Rattle.arr_export.specs.ValueColumns.{tree_of}
 use Rattle.column_fill.proofs.ColumnCosts.{column-cost, few-blocks}
-use Rattle.unit_pass.specs.Tally.{risen}
-use Rattle.list_cols.specs.Exploded.{blocks_in}
-use Rattle.list_cols.specs.FlatTables.{columns_from, flat_column}
+use Rattle.unit_pass.specs.promise.Tally.{risen}
+use Rattle.list_cols.specs.promise.Exploded.{blocks_in}
+use Rattle.list_cols.specs.promise.FlatTables.{columns_from, flat_column}
 
 -- ---- the list of the columns
 

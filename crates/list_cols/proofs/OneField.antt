@@ -1,9 +1,13 @@
 -- One new field among places that are released.
 use Rattle.std.proofs.Common.{◌≡◌, ◌∙◌, ◌≤◌, ◌+◌, ℕ, zero, suc, List, [], ◌∷◌, ◌++◌, length, replicate, set, refl, ap, arith}
-use Rattle.tree_model.specs.Tree.{Depth, Released, Live, IsLive, children_of, depth_of_all, trees, with_child}
+use Rattle.tree_model.specs.promise.TreeData.{Released, Live, trees}
+use Rattle.tree_model.specs.promise.TreeParts.{IsLive, children_of}
+use Rattle.tree_model.specs.Tree.{Depth, depth_of_all, with_child}
 use Rattle.arr_move.proofs.Vacant.{cost_of_released, depth_of_released}
 use Rattle.arr_move.specs.TreeActs.{with_children}
-use Rattle.raw_schema.specs.Members.{Nodes, SchemaMembers, SchemaTree, no_holds, nodes_of_all}
+use Rattle.tree_model.specs.promise.TreeCost.{Nodes, no_holds}
+use Rattle.raw_schema.specs.promise.Members.{SchemaMembers, SchemaTree}
+use Rattle.raw_schema.specs.Members.{nodes_of_all}
 use Rattle.arr_move.specs.Fields.{fields_over}
 
 abbrev pub among : ℕ → SchemaTree → ℕ → List SchemaTree

@@ -1,7 +1,7 @@
 -- Another item in the place of one.
 use Rattle.std.proofs.Common.{◌≡◌, ◌≢◌, ◌∙◌, ℕ, zero, suc, ◌+◌, ◌<◌, List, [], ◌∷◌, ◌++◌, length, set, get_or, take, drop, refl, ap, arith}
 use Rattle.std.proofs.lemmas.List.{get_or-set_other, get_or-set_same, length-set}
-use Rattle.data_types.specs.Parts.{replaced}
+use Rattle.data_types.specs.promise.Parts.{replaced}
 
 pub replaced-set : {X : Type 0} (p : ℕ) (x : X) (xs : List X) → p < length xs → replaced p x xs ≡ set xs p x
 replaced-set p x [] lt = absurd (omega (arith, lt))

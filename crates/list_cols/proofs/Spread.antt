@@ -2,11 +2,11 @@
 use Rattle.std.proofs.Common.{◌≡◌, ◌≢◌, ◌∙◌, ℕ, zero, suc, ◌<◌, List, [], ◌∷◌, ◌++◌, All, length, map, replicate, get_or, refl, ap, arith}
 use Rattle.std.proofs.lemmas.List.{map-append}
 use Rattle.std.specs.List.{flat_map}
-use Rattle.data_types.specs.Parts.{column_values, replaced}
-use Rattle.data_types.specs.Table.{Row}
-use Rattle.data_types.specs.Value.{Value, Null}
-use Rattle.layout_rules.specs.Values.{each}
-use Rattle.list_cols.specs.Nested.{Explode, items_in}
+use Rattle.data_types.specs.promise.Parts.{column_values, replaced}
+use Rattle.data_types.specs.promise.Table.{Row}
+use Rattle.data_types.specs.promise.Value.{Value, Null}
+use Rattle.layout_rules.specs.promise.Values.{each}
+use Rattle.list_cols.specs.promise.Nested.{Explode, items_in}
 use Rattle.list_cols.proofs.Replaced.{length-replaced, replaced-other, replaced-same}
 
 -- the rows of one row's list

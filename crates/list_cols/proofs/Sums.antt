@@ -3,7 +3,7 @@ use Rattle.std.proofs.Common.{◌≡◌, ◌≤◌, ◌<◌, ◌+◌, ◌*◌, �
 use Rattle.std.proofs.Math.Nat.{suc-mul}
 use Rattle.std.proofs.lemmas.List.{length-append}
 use Rattle.std.specs.List.{concat, flat_map}
-use Rattle.data_types.specs.Value.{Value, byte_total, bytes_of}
+use Rattle.data_types.specs.promise.Value.{Value, byte_total, bytes_of}
 
 -- ---- bytes
 

@@ -7,11 +7,12 @@ use Rattle.std.proofs.lemmas.Bool.{false≢true}
 use Rattle.std.proofs.lemmas.Bool.Decides.{Decides-eqb, Decides-int_eq}
 use Rattle.std.specs.Prelude.{if◌then◌else◌, not}
 use Rattle.std.specs.List.{flat_map}
-use Rattle.data_types.specs.Parts.{column_values, replaced, value_list}
-use Rattle.data_types.specs.Table.{Row}
-use Rattle.data_types.specs.Value.{Value, Null, Truth, Whole, Bits, Bytes, Items, values}
+use Rattle.data_types.specs.promise.Parts.{column_values, replaced, value_list}
+use Rattle.data_types.specs.promise.Table.{Row}
+use Rattle.data_types.specs.promise.Value.{Value, Null, Truth, Whole, Bits, Bytes, Items, values}
 use Rattle.list_cols.specs.Law.{KeysComeTogether}
-use Rattle.list_cols.specs.Nested.{distinct, items_in, rows_with, same}
+use Rattle.data_types.specs.promise.Groups.{distinct, same}
+use Rattle.list_cols.specs.promise.Nested.{items_in, rows_with}
 
 list-of : (vs : List Value) → value_list (values vs) ≡ vs
 list-of [] = refl

@@ -4,20 +4,21 @@ use Rattle.std.specs.Prelude.{◌⊎◌, ◌||◌, nat_lt, not}
 use Rattle.std.specs.List.{list_any}
 use Rattle.std.proofs.lemmas.Bool.{lt-ltb}
 use Rattle.std.proofs.lemmas.Bool.Decides.{nat_tests}
-use Rattle.data_types.specs.Parts.{column_values}
-use Rattle.data_types.specs.Table.{Row}
+use Rattle.data_types.specs.promise.Parts.{column_values}
+use Rattle.data_types.specs.promise.Table.{Row}
 use Rattle.data_types.specs.declared.kind.DataType.{DataType}
 use Rattle.data_types.specs.declared.kind.DataType.TheVariants as kinds
-use Rattle.tree_model.specs.Tree.{children_of}
-use Rattle.raw_array.specs.Members.{ArrayTree}
-use Rattle.data_types.specs.KindTrees.{KindTree}
-use Rattle.layout_rules.specs.Values.{rows_of}
+use Rattle.tree_model.specs.promise.TreeParts.{children_of}
+use Rattle.raw_array.specs.promise.Members.{ArrayTree}
+use Rattle.data_types.specs.promise.KindTrees.{KindTree}
+use Rattle.layout_rules.specs.promise.Values.{rows_of}
 use Rattle.list_cols.specs.declared.fault.ListFault.{ListFault}
 use Rattle.list_cols.specs.declared.fault.ListFault.TheVariants.{WrongKind, TooLong, NoMemory}
-use Rattle.list_cols.specs.Exploded.{exploded_kinds}
-use Rattle.list_cols.specs.Faults.{IsRefusedBy, fault_of, is_too_long, is_too_wide, most_named}
-use Rattle.list_cols.specs.FlatTables.{columns_from, flat_column}
-use Rattle.list_cols.specs.Nested.{Explode}
+use Rattle.list_cols.specs.promise.Exploded.{exploded_kinds}
+use Rattle.list_cols.specs.promise.Faults.{fault_of, is_too_long, is_too_wide, most_named}
+use Rattle.list_cols.specs.Faults.{IsRefusedBy}
+use Rattle.list_cols.specs.promise.FlatTables.{columns_from, flat_column}
+use Rattle.list_cols.specs.promise.Nested.{Explode}
 use Rattle.list_cols.specs.Reaching.{IsLong}
 use Rattle.list_cols.specs.Spreading.{AllFit, spread_values}
 use Rattle.list_cols.proofs.Chunks.{many-kinds}

@@ -1,8 +1,10 @@
 -- The schema of a chunk of which the lists in one column are spread out: the field of that column is replaced.
 use Rattle.std.specs.Prelude.{◌≡◌, ◌<◌, ℕ, List, length, Option, None}
-use Rattle.tree_model.specs.Tree.{IsLive, Live, no_trees, absent, child_at, children_of, dictionary_of, with_child}
-use Rattle.raw_schema.specs.Members.{SchemaTree, members_of}
-use Rattle.schema_check.specs.ColumnSchema.{nullable}
+use Rattle.tree_model.specs.promise.TreeParts.{IsLive, child_at, children_of, dictionary_of}
+use Rattle.tree_model.specs.promise.TreeData.{Live, no_trees, absent}
+use Rattle.tree_model.specs.Tree.{with_child}
+use Rattle.raw_schema.specs.promise.Members.{SchemaTree, members_of}
+use Rattle.schema_check.specs.promise.ColumnSchema.{nullable}
 
 -- a column that may have nulls under another one's name: its format and its metadata stay
 abbrev pub renamed_field : Option (List ℕ) → SchemaTree → SchemaTree

@@ -1,9 +1,10 @@
 -- What grouping and spreading out give together.
 use Rattle.std.specs.Prelude.{◌≡◌, List}
 use Rattle.std.specs.List.{flat_map}
-use Rattle.data_types.specs.Parts.{column_values}
-use Rattle.data_types.specs.Table.{Row}
-use Rattle.list_cols.specs.Nested.{Explode, Nest, distinct, rows_with}
+use Rattle.data_types.specs.promise.Parts.{column_values}
+use Rattle.data_types.specs.promise.Table.{Row}
+use Rattle.list_cols.specs.promise.Nested.{Explode, Nest, rows_with}
+use Rattle.data_types.specs.promise.Groups.{distinct}
 
 -- of rows of two columns, grouped by the first and spread out again: for each key in order of first appearance its rows, in order
 abbrev pub KeysComeTogether : List Row → Type 0

@@ -1,3 +1,4 @@
+pub mod promise
 pub mod Nested
 pub mod Law
 pub mod FlatTables
@@ -11,5 +12,4 @@ pub mod Reaching
 pub mod ListTrees
 pub mod NestedTables
 pub mod NestedFields
-pub mod NestFaults
 pub mod NestedGroups

@@ -1,44 +1,15 @@
 -- A column of lists as an array tree, between offsets of 32 bits ("Arrow Columnar Format", "Variable-size List Layout").
-use Rattle.std.specs.Prelude.{◌<◌, ◌≤◌, ℕ, pos, false, List, [], ◌∷◌, length, map, None, Some}
-use Rattle.std.specs.List.{flat_map}
-use Rattle.data_types.specs.Packed.{le_bytes, offset_width}
+use Rattle.std.specs.Prelude.{◌<◌, ◌≤◌, false, List, [], ◌∷◌, length, None}
 use Rattle.data_types.specs.declared.kind.DataType.{DataType}
 use Rattle.data_types.specs.declared.kind.DataType.TheVariants as kinds
-use Rattle.data_types.specs.Value.{Value, Items, values}
-use Rattle.tree_model.specs.Tree.{Live, trees, absent}
-use Rattle.raw_array.specs.Members.{ArrayMembers, ArrayTree}
-use Rattle.raw_array.specs.declared.array.ReleaseKind.TheVariants.{Exported}
-use Rattle.col_build.specs.Encoding.{Fits, narrow_limit}
-use Rattle.data_types.specs.KindTrees.{KindTree}
-use Rattle.arr_export.specs.ArrayTrees.{column_tree, flat_type, made}
-use Rattle.layout_rules.specs.Rules.{window_limit}
-use Rattle.data_types.specs.Groups.{sums_from}
-
--- the offsets of lists of these lengths one behind the other: where each begins, and where the last one ends
-abbrev pub list_offsets : List ℕ → List ℕ
-list_offsets counts = flat_map (le_bytes (offset_width false)) (sums_from 0 counts)
-
-abbrev pub list_lengths : List (List Value) → List ℕ
-list_lengths lists = map (λ list. length list) lists
-
--- the values of all lists, one list behind the other
-abbrev pub joined : List (List Value) → List Value
-joined lists = flat_map (λ list. list) lists
-
--- this many lists, none of them null
-abbrev pub list_members : ℕ → List ℕ → ArrayMembers
-list_members count offsets = record {
-  length = pos count;
-  null_count = pos 0;
-  offset = pos 0;
-  buffers = None ∷ Some (made offsets) ∷ [];
-  kind = Exported;
-}
-
--- the offsets over the values of all lists, one list behind the other
-abbrev pub list_tree : DataType → List (List Value) → ArrayTree
-list_tree kind lists =
-    Live (list_members (length lists) (list_offsets (list_lengths lists))) (trees (column_tree kind (joined lists) None ∷ [])) absent
+use Rattle.data_types.specs.promise.Value.{Value, Items, values}
+use Rattle.tree_model.specs.promise.TreeData.{Live, trees, absent}
+use Rattle.col_build.specs.promise.Encoding.{narrow_limit}
+use Rattle.col_build.specs.Encoding.{Fits}
+use Rattle.data_types.specs.promise.KindTrees.{KindTree}
+use Rattle.arr_export.specs.ArrayTrees.{flat_type}
+use Rattle.layout_rules.specs.promise.Rules.{window_limit}
+use Rattle.list_cols.specs.promise.ListTrees.{joined}
 
 -- lists of values of a type
 abbrev pub list_kind : DataType → KindTree

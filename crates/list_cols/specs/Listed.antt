@@ -1,16 +1,16 @@
 -- The items of lists, one list behind the other, and how often each row is there once they are spread out.
 use Rattle.std.specs.Prelude.{◌≡◌, ◌+◌, ◌<◌, ◌≤◌, ◌^◌, ℕ, List, ◌++◌, length, Option, None, Some}
 use Rattle.std.specs.List.{flat_map}
-use Rattle.data_types.specs.Storage.{storage_of}
-use Rattle.data_types.specs.Value.{Value}
+use Rattle.data_types.specs.promise.Storage.{storage_of}
+use Rattle.data_types.specs.promise.Value.{Value}
 use Rattle.data_types.specs.declared.kind.DataType.{DataType}
 use Rattle.data_types.specs.declared.storage.Storage.{Storage}
 use Rattle.col_build.specs.Encoding.{Fits}
 use Rattle.col_build.specs.Holding.{Holds}
 use Rattle.col_build.specs.declared.builder.Builder.{Builder}
-use Rattle.layout_rules.specs.Values.{each}
+use Rattle.layout_rules.specs.promise.Values.{each}
 use Rattle.column_fill.specs.declared.runs.Run.{Run}
-use Rattle.list_cols.specs.Nested.{items_in}
+use Rattle.list_cols.specs.promise.Nested.{items_in}
 
 -- the items of this many lists
 abbrev pub listed : (ℕ → Value) → ℕ → List Value

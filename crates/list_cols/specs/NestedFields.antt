@@ -1,10 +1,11 @@
 -- The schema of a chunk of which the rows are grouped by a column: each other field becomes the item of a list.
 use Rattle.std.specs.Prelude.{ℕ, ◌==◌, if◌then◌else◌, List, [], ◌∷◌, codes, length, None, Some}
-use Rattle.tree_model.specs.Tree.{Released, Live, absent, child_at, children_of, trees}
+use Rattle.tree_model.specs.promise.TreeData.{Released, Live, absent, trees}
+use Rattle.tree_model.specs.promise.TreeParts.{child_at, children_of}
 use Rattle.arr_move.specs.TreeActs.{with_children}
-use Rattle.raw_schema.specs.Members.{SchemaTree, members_of}
-use Rattle.schema_check.specs.ColumnSchema.{nullable}
-use Rattle.layout_rules.specs.Values.{each}
+use Rattle.raw_schema.specs.promise.Members.{SchemaTree, members_of}
+use Rattle.schema_check.specs.promise.ColumnSchema.{nullable}
+use Rattle.layout_rules.specs.promise.Values.{each}
 use Rattle.list_cols.specs.Fields.{renamed_field}
 
 -- lists of a field's values, with offsets of 32 bits ("The Arrow C Data Interface", "Data type description -- format strings")

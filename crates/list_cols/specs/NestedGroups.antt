@@ -1,24 +1,25 @@
 -- A chunk's rows as groups of the items of a column, and the lists that these are of another one.
 use Rattle.std.specs.Prelude.{◌≡◌, ◌<◌, ◌≤◌, ◌+◌, ℕ, List, All, length, map, None}
-use Rattle.col_build.specs.Encoding.{narrow_limit}
-use Rattle.data_types.specs.Parts.{column_values}
-use Rattle.data_types.specs.Table.{Flat}
-use Rattle.data_types.specs.Value.{Value}
+use Rattle.col_build.specs.promise.Encoding.{narrow_limit}
+use Rattle.data_types.specs.promise.Parts.{column_values}
+use Rattle.data_types.specs.promise.Table.{Flat}
+use Rattle.data_types.specs.promise.Value.{Value}
 use Rattle.data_types.specs.declared.kind.DataType.{DataType}
-use Rattle.tree_model.specs.Tree.{child_at, children_of}
-use Rattle.raw_array.specs.Members.{ArrayTree, members_of}
-use Rattle.data_types.specs.ColumnKinds.{type_of_kind}
-use Rattle.data_types.specs.KindTrees.{KindTree}
-use Rattle.layout_rules.specs.Layout.{first}
-use Rattle.layout_rules.specs.Values.{rows_of, tree_items}
-use Rattle.layout_rules.specs.Walk.{ChunkOk, LayoutOk}
+use Rattle.tree_model.specs.promise.TreeParts.{child_at, children_of}
+use Rattle.raw_array.specs.promise.Members.{ArrayTree, members_of}
+use Rattle.data_types.specs.promise.ColumnKinds.{type_of_kind}
+use Rattle.data_types.specs.promise.KindTrees.{KindTree}
+use Rattle.layout_rules.specs.promise.Layout.{first}
+use Rattle.layout_rules.specs.promise.Values.{rows_of, tree_items}
+use Rattle.layout_rules.specs.promise.Walk.{ChunkOk, LayoutOk}
 use Rattle.array_laws.specs.Items.{AreApart}
 use Rattle.column_fill.specs.Gathered.{values_at}
 use Rattle.column_fill.specs.declared.runs.Run.{Run}
-use Rattle.data_types.specs.Groups.{distinct, offsets_of, order_of, places_of}
+use Rattle.data_types.specs.promise.Groups.{distinct}
+use Rattle.data_types.specs.Groups.{offsets_of, order_of, places_of}
 use Rattle.row_groups.specs.declared.groups.Groups.{Groups}
-use Rattle.list_cols.specs.Faults.{first_wrong}
-use Rattle.list_cols.specs.NestFaults.{nests}
+use Rattle.list_cols.specs.promise.Faults.{first_wrong}
+use Rattle.list_cols.specs.promise.NestFaults.{nests}
 
 -- for each distinct value the items of an array that are where it is, counted from an item of the array on
 abbrev pub grouped_lists : KindTree → ArrayTree → ℕ → List Value → List (List Value)

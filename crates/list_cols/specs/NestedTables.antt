@@ -1,48 +1,26 @@
 -- The table of rows that are grouped by the values of a column: a column of its distinct values, and a list column for each other one.
-use Rattle.std.specs.Prelude.{◌≡◌, ◌≢◌, ◌+◌, ◌-◌, ◌*◌, ◌<◌, ◌≤◌, ℕ, ◌==◌, nat_lt, if◌then◌else◌, List, get_or, length, map, None}
+use Rattle.std.specs.Prelude.{◌≡◌, ◌≢◌, ◌+◌, ◌-◌, ◌*◌, ◌<◌, ◌≤◌, ℕ, ◌==◌, nat_lt, if◌then◌else◌, List, length, map, None}
 use Rattle.data_types.specs.declared.kind.DataType.{DataType}
-use Rattle.data_types.specs.declared.kind.DataType.TheVariants as kinds
-use Rattle.data_types.specs.Parts.{column_values}
-use Rattle.data_types.specs.Table.{Row}
-use Rattle.data_types.specs.Value.{Value}
-use Rattle.tree_model.specs.Tree.{children_of}
-use Rattle.raw_array.specs.Members.{ArrayTree, Cost}
+use Rattle.data_types.specs.promise.Table.{Row}
+use Rattle.tree_model.specs.promise.TreeParts.{children_of}
 use Rattle.col_build.specs.Encoding.{Fits}
-use Rattle.data_types.specs.ColumnKinds.{table_type}
-use Rattle.data_types.specs.KindTrees.{KindTree, kind_in}
-use Rattle.layout_rules.specs.Values.{each, rows_of}
-use Rattle.arr_export.specs.ArrayTrees.{column_tree, flat_type, table_tree}
-use Rattle.layout_rules.specs.Rules.{window_limit}
-use Rattle.list_cols.specs.ListTrees.{FitLists, list_kind, list_tree}
-use Rattle.list_cols.specs.Nested.{distinct, rows_with}
-
--- the distinct values of a column
-abbrev pub keys_of : ℕ → List Row → List Value
-keys_of column rows = distinct (column_values column rows)
-
--- for each of them, the values of its rows in another column
-abbrev pub lists_of : ℕ → List Row → ℕ → List (List Value)
-lists_of column rows k = map (λ key. column_values k (rows_with column key rows)) (keys_of column rows)
+use Rattle.data_types.specs.promise.ColumnKinds.{table_type}
+use Rattle.data_types.specs.promise.KindTrees.{KindTree, kind_in}
+use Rattle.layout_rules.specs.promise.Values.{each}
+use Rattle.arr_export.specs.ArrayTrees.{flat_type}
+use Rattle.layout_rules.specs.promise.Rules.{window_limit}
+use Rattle.list_cols.specs.ListTrees.{FitLists, list_kind}
+use Rattle.list_cols.specs.promise.NestedTables.{keys_of, kind_at, lists_of}
 
 -- ---- a column of the table, and its kinds
 
-abbrev pub kind_at : List DataType → ℕ → DataType
-kind_at types k = get_or types k kinds.Null
-
 abbrev pub nested_kind : ℕ → List DataType → ℕ → KindTree
 nested_kind column types k = if k == column then flat_type (kind_at types k) None else list_kind (kind_at types k)
-
-abbrev pub nested_column : ℕ → List DataType → List Row → ℕ → ArrayTree
-nested_column column types rows k =
-    if k == column then column_tree (kind_at types k) (keys_of column rows) None else list_tree (kind_at types k) (lists_of column rows k)
 
 -- ---- the table of rows with columns of these types
 
 abbrev pub nested_table_type : ℕ → List DataType → KindTree
 nested_table_type column types = table_type (each (nested_kind column types) 0 (length types))
-
-abbrev pub nested_table : ℕ → List DataType → List Row → ArrayTree
-nested_table column types rows = table_tree (length (keys_of column rows)) (each (nested_column column types rows) 0 (length types))
 
 -- a column has an encoding
 pub record FitColumn (column : ℕ) (types : List DataType) (rows : List Row) (k : ℕ) : Type 0 where
@@ -64,10 +42,3 @@ nodes_to own column n = if nat_lt column n then own + 2 * (n - 1) else 2 * n
 
 abbrev pub nested_type : ℕ → KindTree → KindTree
 nested_type column typed = nested_table_type column (map kind_in (children_of typed))
-
-abbrev pub nested_array : ℕ → KindTree → ArrayTree → ArrayTree
-nested_array column typed array = nested_table column (map kind_in (children_of typed)) (rows_of typed array)
-
--- the blocks of the new array, one for each buffer: what it costs but for its nodes, as many as twice its columns
-abbrev pub nested_blocks : ℕ → KindTree → ArrayTree → ℕ
-nested_blocks column typed array = Cost (nested_array column typed array) - 2 * length (children_of typed)

@@ -1,10 +1,11 @@
 -- How many bytes the offsets of a column reach.
 use Rattle.std.specs.Prelude.{◌≡◌, ◌^◌, ℕ, nat_lt, Bool, true, false, List, Option, None, Some}
-use Rattle.data_types.specs.FieldText.{Form, form_of}
-use Rattle.data_types.specs.Value.{Value, byte_total}
+use Rattle.data_types.specs.promise.FieldText.{Form, form_of}
+use Rattle.data_types.specs.promise.Value.{Value, byte_total}
 use Rattle.data_types.specs.declared.kind.DataType.{DataType}
 use Rattle.data_types.specs.declared.kind.DataType.TheVariants as kinds
-use Rattle.col_build.specs.Encoding.{are_bounded, are_within, is_wide, narrow_limit}
+use Rattle.col_build.specs.promise.Encoding.{are_within, is_wide, narrow_limit}
+use Rattle.col_build.specs.Encoding.{are_bounded}
 use Rattle.list_cols.specs.declared.fault.ListFault.{ListFault}
 use Rattle.list_cols.specs.declared.fault.ListFault.TheVariants.{WrongKind, TooLong, NoMemory}
 

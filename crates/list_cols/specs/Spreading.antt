@@ -1,21 +1,21 @@
 -- What the columns of a chunk meet where the lists of one are spread out, and the columns that are made.
 use Rattle.std.specs.Prelude.{◌≡◌, ◌<◌, ℕ, List, length, get_or, None}
-use Rattle.data_types.specs.Parts.{column_values}
+use Rattle.data_types.specs.promise.Parts.{column_values}
 use Rattle.data_types.specs.declared.kind.DataType.TheVariants as kinds
-use Rattle.data_types.specs.Value.{Value, Null}
-use Rattle.tree_model.specs.Tree.{children_of}
-use Rattle.raw_array.specs.Members.{ArrayTree, members_of}
+use Rattle.data_types.specs.promise.Value.{Value, Null}
+use Rattle.tree_model.specs.promise.TreeParts.{children_of}
+use Rattle.raw_array.specs.promise.Members.{ArrayTree, members_of}
 use Rattle.col_build.specs.Encoding.{Fits}
-use Rattle.data_types.specs.KindTrees.{KindTree}
-use Rattle.layout_rules.specs.Layout.{first}
-use Rattle.layout_rules.specs.Values.{row_items, rows_of, tree_items}
-use Rattle.layout_rules.specs.Walk.{ChunkOk}
-use Rattle.arr_export.specs.ArrayTrees.{column_tree}
+use Rattle.data_types.specs.promise.KindTrees.{KindTree}
+use Rattle.layout_rules.specs.promise.Layout.{first}
+use Rattle.layout_rules.specs.promise.Values.{row_items, rows_of, tree_items}
+use Rattle.layout_rules.specs.promise.Walk.{ChunkOk}
+use Rattle.arr_export.specs.promise.ArrayTrees.{column_tree}
 use Rattle.column_fill.specs.declared.runs.Run.{Run}
-use Rattle.list_cols.specs.Exploded.{exploded_kinds}
-use Rattle.list_cols.specs.Faults.{explodes, first_wrong}
+use Rattle.list_cols.specs.promise.Exploded.{exploded_kinds}
+use Rattle.list_cols.specs.promise.Faults.{explodes, first_wrong}
 use Rattle.list_cols.specs.Listed.{list_runs}
-use Rattle.list_cols.specs.Nested.{Explode}
+use Rattle.list_cols.specs.promise.Nested.{Explode}
 
 -- the list of a row
 abbrev pub list_at : ℕ → KindTree → ArrayTree → ℕ → Value

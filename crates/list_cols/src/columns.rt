@@ -1,15 +1,17 @@
 //! The columns of the rows whose lists are spread out.
 ghost use Rattle.std.specs.Prelude.{◌≡◌, ◌≢◌, ◌+◌, ◌*◌, ◌<◌, ◌≤◌, IfOk, OnOk, MatchResult, get_or, length, map};
 ghost use Rattle.arr_export.specs.ValueColumns.{tree_of};
-ghost use Rattle.col_build.specs.Finished.{blocks_of};
+ghost use Rattle.col_build.specs.promise.Finished.{blocks_of};
 ghost use Rattle.col_build.specs.Holding.{Holds};
 ghost use Rattle.data_types.specs.declared.kind.DataType.TheVariants as kinds;
 ghost use Rattle.data_types.specs.KindTrees.{TypedOk};
-ghost use Rattle.data_types.specs.TypedView.{typed_of};
-ghost use Rattle.raw_array.specs.Members.{Cost, cost_of_all};
-ghost use Rattle.tree_model.specs.Tree.{children_of, trees};
-ghost use Rattle.unit_pass.specs.Tally.{risen};
-ghost use Rattle.list_cols.specs.Exploded.{exploded_blocks, exploded_columns, exploded_kinds};
+ghost use Rattle.data_types.specs.promise.TypedView.{typed_of};
+ghost use Rattle.raw_array.specs.promise.Members.{Cost};
+ghost use Rattle.raw_array.specs.Members.{cost_of_all};
+ghost use Rattle.tree_model.specs.promise.TreeParts.{children_of};
+ghost use Rattle.tree_model.specs.promise.TreeData.{trees};
+ghost use Rattle.unit_pass.specs.promise.Tally.{risen};
+ghost use Rattle.list_cols.specs.promise.Exploded.{exploded_blocks, exploded_columns, exploded_kinds};
 ghost use Rattle.list_cols.specs.Spreading.{AllFit, CanSpread, FitsAt, chunk_runs, spread_column, spread_values};
 
 use crate::kinds::{child_count, child_kinds, list_column};

@@ -1,19 +1,21 @@
 //! Rows whose lists are spread out.
 ghost use Rattle.std.specs.Prelude.{◌≡◌, ◌≢◌, ◌+◌, ◌<◌, ◌≤◌, ℕ, None, Some, IfOk, IfErr, OnOk, MatchResult, length};
-ghost use Rattle.tree_model.specs.Tree.{children_of};
+ghost use Rattle.tree_model.specs.promise.TreeParts.{children_of};
 ghost use Rattle.data_types.specs.KindTrees.{TypedOk};
-ghost use Rattle.data_types.specs.TypedView.{typed_of};
-ghost use Rattle.layout_rules.specs.Values.{rows_of};
-ghost use Rattle.layout_rules.specs.Walk.{ChunkOk};
-ghost use Rattle.raw_array.specs.Members.{Cost};
-ghost use Rattle.raw_schema.specs.Members.{Nodes};
-ghost use Rattle.schema_check.specs.Schemas.{TypedOf};
-ghost use Rattle.unit_pass.specs.Tally.{risen};
+ghost use Rattle.data_types.specs.promise.TypedView.{typed_of};
+ghost use Rattle.layout_rules.specs.promise.Values.{rows_of};
+ghost use Rattle.layout_rules.specs.promise.Walk.{ChunkOk};
+ghost use Rattle.raw_array.specs.promise.Members.{Cost};
+ghost use Rattle.tree_model.specs.promise.TreeCost.{Nodes};
+ghost use Rattle.schema_check.specs.promise.Schemas.{TypedOf};
+ghost use Rattle.unit_pass.specs.promise.Tally.{risen};
 ghost use Rattle.unit_pass.specs.declared.pass.TheConstants.{CHUNK, SUPPLY};
-ghost use Rattle.list_cols.specs.Exploded.{exploded_array, exploded_blocks, exploded_type};
-ghost use Rattle.list_cols.specs.Faults.{IsRefusedBy, explode_fault, explodes, first_wrong, most_columns, most_named};
+ghost use Rattle.list_cols.specs.promise.Exploded.{exploded_blocks};
+ghost use Rattle.list_cols.specs.Exploded.{exploded_array, exploded_type};
+ghost use Rattle.list_cols.specs.promise.Faults.{explode_fault, explodes, first_wrong, most_columns, most_named};
+ghost use Rattle.list_cols.specs.Faults.{IsRefusedBy};
 ghost use Rattle.list_cols.specs.Fields.{exploded_schema};
-ghost use Rattle.list_cols.specs.Nested.{Explode};
+ghost use Rattle.list_cols.specs.promise.Nested.{Explode};
 
 use crate::fault::ListFault;
 use crate::fields::spread_schema;

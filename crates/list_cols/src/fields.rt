@@ -1,10 +1,11 @@
 //! The schema of a chunk of which the lists in one column are spread out.
 ghost use Rattle.std.specs.Prelude.{◌≡◌, ◌+◌, ◌-◌, ◌<◌, ◌≤◌, ◌++◌, ◌∷◌, None, IfOk, IfErr, OnOk, MatchResult, if◌then◌else◌, is_ok, length, replicate, vec_len, vec_capacity};
-ghost use Rattle.tree_model.specs.Tree.{IsLive, Released, child_at, children_of, dictionary_of};
+ghost use Rattle.tree_model.specs.promise.TreeParts.{IsLive, child_at, children_of, dictionary_of};
+ghost use Rattle.tree_model.specs.promise.TreeData.{Released};
 ghost use Rattle.arr_import.specs.Lent.{lent_bytes};
-ghost use Rattle.raw_schema.specs.Members.{Nodes};
+ghost use Rattle.tree_model.specs.promise.TreeCost.{Nodes};
 ghost use Rattle.raw_schema.specs.View.{bytes_of};
-ghost use Rattle.unit_pass.specs.Tally.{risen};
+ghost use Rattle.unit_pass.specs.promise.Tally.{risen};
 ghost use Rattle.unit_pass.specs.declared.pass.TheConstants.{SUPPLY};
 ghost use Rattle.list_cols.specs.Fields.{exploded_schema, item_field, renamed_field};
 

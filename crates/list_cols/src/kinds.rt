@@ -3,10 +3,10 @@ ghost use Rattle.std.specs.Prelude.{◌≡◌, ◌<◌, length};
 ghost use Rattle.arr_import.specs.Cols.{window_of};
 ghost use Rattle.arr_import.specs.Window.{item_at};
 ghost use Rattle.data_types.specs.KindTrees.{TypedOk};
-ghost use Rattle.data_types.specs.TypedView.{typed_of};
-ghost use Rattle.layout_rules.specs.Values.{tree_items};
-ghost use Rattle.layout_rules.specs.Walk.{ChunkOk};
-ghost use Rattle.tree_model.specs.Tree.{child_at, children_of};
+ghost use Rattle.data_types.specs.promise.TypedView.{typed_of};
+ghost use Rattle.layout_rules.specs.promise.Values.{tree_items};
+ghost use Rattle.layout_rules.specs.promise.Walk.{ChunkOk};
+ghost use Rattle.tree_model.specs.promise.TreeParts.{child_at, children_of};
 ghost use Rattle.list_cols.specs.Spreading.{list_at};
 
 use arr_import::Col;

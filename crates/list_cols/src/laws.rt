@@ -1,13 +1,13 @@
 //! What grouping and spreading out give together, and what a table of flat columns is that is made of rows.
 ghost use Rattle.std.specs.Prelude.{◌≡◌, ◌<◌, ◌≤◌, ℕ, List, length, get_or, All};
 ghost use Rattle.col_build.specs.Encoding.{Fits};
-ghost use Rattle.data_types.specs.Parts.{column_values};
-ghost use Rattle.data_types.specs.Table.{Row};
+ghost use Rattle.data_types.specs.promise.Parts.{column_values};
+ghost use Rattle.data_types.specs.promise.Table.{Row};
 ghost use Rattle.data_types.specs.declared.kind.DataType.{DataType};
 ghost use Rattle.data_types.specs.declared.kind.DataType.TheVariants as kinds;
-ghost use Rattle.layout_rules.specs.Rules.{window_limit};
-ghost use Rattle.layout_rules.specs.Values.{rows_of};
-ghost use Rattle.layout_rules.specs.Walk.{ChunkOk};
+ghost use Rattle.layout_rules.specs.promise.Rules.{window_limit};
+ghost use Rattle.layout_rules.specs.promise.Values.{rows_of};
+ghost use Rattle.layout_rules.specs.promise.Walk.{ChunkOk};
 ghost use Rattle.list_cols.specs.FlatTables.{flat_table, flat_table_type};
 ghost use Rattle.list_cols.specs.Law.{KeysComeTogether};
 

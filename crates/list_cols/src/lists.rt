@@ -5,7 +5,7 @@ ghost use Rattle.arr_import.specs.Window.{item_at, items_of};
 ghost use Rattle.col_build.specs.Encoding.{Fits};
 ghost use Rattle.col_build.specs.Holding.{Holds};
 ghost use Rattle.list_cols.specs.Listed.{AddsAll, TakesAll, listed};
-ghost use Rattle.list_cols.specs.Nested.{items_in};
+ghost use Rattle.list_cols.specs.promise.Nested.{items_in};
 
 use crate::runs::{count_items, list_at};
 use arr_import::Col;

@@ -1,15 +1,20 @@
 //! The columns of grouped rows.
 ghost use Rattle.std.specs.Prelude.{◌≡◌, ◌+◌, ◌-◌, ◌*◌, ◌<◌, ◌≤◌, ◌≤ℤ◌, ◌==◌, if◌then◌else◌, ℕ, pos, None, IfOk, OnOk, MatchResult, length, map};
-ghost use Rattle.data_types.specs.KindTrees.{TypedOk, kind_in};
-ghost use Rattle.data_types.specs.TypedView.{kids_of, kind_of, typed_of};
-ghost use Rattle.layout_rules.specs.Layout.{first};
-ghost use Rattle.layout_rules.specs.Values.{each, rows_of, tree_items};
-ghost use Rattle.raw_array.specs.Members.{Cost, cost_of_all, members_of};
-ghost use Rattle.tree_model.specs.Tree.{IsLive, children_of, trees};
-ghost use Rattle.unit_pass.specs.Tally.{risen};
+ghost use Rattle.data_types.specs.promise.KindTrees.{kind_in};
+ghost use Rattle.data_types.specs.KindTrees.{TypedOk};
+ghost use Rattle.data_types.specs.promise.TypedView.{typed_of};
+ghost use Rattle.data_types.specs.TypedView.{kids_of, kind_of};
+ghost use Rattle.layout_rules.specs.promise.Layout.{first};
+ghost use Rattle.layout_rules.specs.promise.Values.{each, rows_of, tree_items};
+ghost use Rattle.raw_array.specs.promise.Members.{Cost, members_of};
+ghost use Rattle.raw_array.specs.Members.{cost_of_all};
+ghost use Rattle.tree_model.specs.promise.TreeParts.{IsLive, children_of};
+ghost use Rattle.tree_model.specs.promise.TreeData.{trees};
+ghost use Rattle.unit_pass.specs.promise.Tally.{risen};
 ghost use Rattle.unit_pass.specs.declared.pass.TheConstants.{SUPPLY};
 ghost use Rattle.list_cols.specs.NestedGroups.{AreRowGroups, CanNest};
-ghost use Rattle.list_cols.specs.NestedTables.{FitColumn, nested_column, nodes_to};
+ghost use Rattle.list_cols.specs.promise.NestedTables.{nested_column};
+ghost use Rattle.list_cols.specs.NestedTables.{FitColumn, nodes_to};
 
 use crate::nest_lists::{list_column, picked_column};
 use array_laws::{flat_types_have_no_children, lawful_values_fit};

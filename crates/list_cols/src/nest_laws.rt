@@ -1,20 +1,22 @@
 //! What list columns are, and the table of rows that are grouped.
 ghost use Rattle.std.specs.Prelude.{◌≡◌, ◌<◌, ℕ, List, None, length, map};
 ghost use Rattle.arr_export.specs.ArrayTrees.{flat_type};
-ghost use Rattle.data_types.specs.Table.{Row};
-ghost use Rattle.data_types.specs.Value.{Value};
+ghost use Rattle.data_types.specs.promise.Table.{Row};
+ghost use Rattle.data_types.specs.promise.Value.{Value};
 ghost use Rattle.data_types.specs.declared.kind.DataType.{DataType};
 ghost use Rattle.data_types.specs.declared.kind.DataType.TheVariants as kinds;
-ghost use Rattle.data_types.specs.KindTrees.{KindTree, kind_in};
-ghost use Rattle.layout_rules.specs.Values.{rows_of, values_of};
-ghost use Rattle.layout_rules.specs.Walk.{ChunkOk, LayoutOk};
-ghost use Rattle.raw_schema.specs.Members.{SchemaTree};
-ghost use Rattle.schema_check.specs.Schemas.{TypedOf};
-ghost use Rattle.tree_model.specs.Tree.{child_at, children_of, dictionary_of};
-ghost use Rattle.list_cols.specs.ListTrees.{FitLists, list_kind, list_tree, list_value};
-ghost use Rattle.list_cols.specs.Nested.{Nest};
+ghost use Rattle.data_types.specs.promise.KindTrees.{KindTree, kind_in};
+ghost use Rattle.layout_rules.specs.promise.Values.{rows_of, values_of};
+ghost use Rattle.layout_rules.specs.promise.Walk.{ChunkOk, LayoutOk};
+ghost use Rattle.raw_schema.specs.promise.Members.{SchemaTree};
+ghost use Rattle.schema_check.specs.promise.Schemas.{TypedOf};
+ghost use Rattle.tree_model.specs.promise.TreeParts.{child_at, children_of, dictionary_of};
+ghost use Rattle.list_cols.specs.promise.ListTrees.{list_tree};
+ghost use Rattle.list_cols.specs.ListTrees.{FitLists, list_kind, list_value};
+ghost use Rattle.list_cols.specs.promise.Nested.{Nest};
 ghost use Rattle.list_cols.specs.NestedFields.{nested_schema};
-ghost use Rattle.list_cols.specs.NestedTables.{FitNested, nested_table, nested_table_type, nested_type};
+ghost use Rattle.list_cols.specs.promise.NestedTables.{nested_table};
+ghost use Rattle.list_cols.specs.NestedTables.{FitNested, nested_table_type, nested_type};
 
 /// A law: the tree of lists of values that have an encoding meets the layout rules, and its values are these lists ("Arrow Columnar
 /// Format", "Variable-size List Layout").

@@ -1,9 +1,11 @@
 //! The schema of a chunk whose rows are grouped by a column.
 ghost use Rattle.std.specs.Prelude.{◌≡◌, ◌+◌, ◌*◌, ◌<◌, ◌≤◌, ◌==◌, ℕ, None, IfOk, IfErr, OnOk, MatchResult, if◌then◌else◌, is_ok, length};
-ghost use Rattle.tree_model.specs.Tree.{IsLive, child_at, children_of, dictionary_of, trees};
-ghost use Rattle.raw_schema.specs.Members.{Nodes, nodes_of_all};
-ghost use Rattle.layout_rules.specs.Values.{each};
-ghost use Rattle.unit_pass.specs.Tally.{risen};
+ghost use Rattle.tree_model.specs.promise.TreeParts.{IsLive, child_at, children_of, dictionary_of};
+ghost use Rattle.tree_model.specs.promise.TreeData.{trees};
+ghost use Rattle.tree_model.specs.promise.TreeCost.{Nodes};
+ghost use Rattle.raw_schema.specs.Members.{nodes_of_all};
+ghost use Rattle.layout_rules.specs.promise.Values.{each};
+ghost use Rattle.unit_pass.specs.promise.Tally.{risen};
 ghost use Rattle.unit_pass.specs.declared.pass.TheConstants.{SUPPLY};
 ghost use Rattle.list_cols.specs.NestedFields.{list_field, nested_schema, new_field};
 ghost use Rattle.list_cols.specs.NestedTables.{nodes_to};

@@ -1,18 +1,21 @@
 //! The array of grouped rows.
 ghost use Rattle.std.specs.Prelude.{◌≡◌, ◌≢◌, ◌⊎◌, ◌+◌, ◌-◌, ◌*◌, ◌<◌, ◌≤◌, ◌≤ℤ◌, true, false, pos, IfOk, IfErr, OnOk, MatchResult, length, map};
-ghost use Rattle.col_build.specs.Encoding.{narrow_limit};
-ghost use Rattle.data_types.specs.KindTrees.{TypedOk, kind_in};
-ghost use Rattle.data_types.specs.TypedView.{kids_of, typed_of};
-ghost use Rattle.layout_rules.specs.Values.{rows_of, tree_items};
-ghost use Rattle.raw_array.specs.Members.{Cost, members_of};
-ghost use Rattle.tree_model.specs.Tree.{IsLive, children_of};
-ghost use Rattle.data_types.specs.Groups.{distinct};
-ghost use Rattle.unit_pass.specs.Tally.{risen};
+ghost use Rattle.col_build.specs.promise.Encoding.{narrow_limit};
+ghost use Rattle.data_types.specs.promise.KindTrees.{kind_in};
+ghost use Rattle.data_types.specs.KindTrees.{TypedOk};
+ghost use Rattle.data_types.specs.promise.TypedView.{typed_of};
+ghost use Rattle.data_types.specs.TypedView.{kids_of};
+ghost use Rattle.layout_rules.specs.promise.Values.{rows_of, tree_items};
+ghost use Rattle.raw_array.specs.promise.Members.{Cost, members_of};
+ghost use Rattle.tree_model.specs.promise.TreeParts.{IsLive, children_of};
+ghost use Rattle.data_types.specs.promise.Groups.{distinct};
+ghost use Rattle.unit_pass.specs.promise.Tally.{risen};
 ghost use Rattle.unit_pass.specs.declared.pass.TheConstants.{CHUNK};
-ghost use Rattle.list_cols.specs.Faults.{most_columns, most_named};
-ghost use Rattle.list_cols.specs.NestFaults.{is_nest_too_long};
+ghost use Rattle.list_cols.specs.promise.Faults.{most_columns, most_named};
+ghost use Rattle.list_cols.specs.promise.NestFaults.{is_nest_too_long};
 ghost use Rattle.list_cols.specs.NestedGroups.{AreRowGroups, CanNest};
-ghost use Rattle.list_cols.specs.NestedTables.{FitNested, nested_array};
+ghost use Rattle.list_cols.specs.promise.NestedTables.{nested_array};
+ghost use Rattle.list_cols.specs.NestedTables.{FitNested};
 
 use crate::fault::ListFault;
 use crate::nest_alone::lone_table;

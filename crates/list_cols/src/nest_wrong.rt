@@ -1,9 +1,10 @@
 //! Which column is at fault where rows are grouped.
 ghost use Rattle.std.specs.Prelude.{◌≡◌, ◌<◌, ◌^◌, length};
-ghost use Rattle.tree_model.specs.Tree.{children_of};
-ghost use Rattle.data_types.specs.TypedView.{kids_of, typed_of};
-ghost use Rattle.list_cols.specs.Faults.{first_wrong};
-ghost use Rattle.list_cols.specs.NestFaults.{nests};
+ghost use Rattle.tree_model.specs.promise.TreeParts.{children_of};
+ghost use Rattle.data_types.specs.promise.TypedView.{typed_of};
+ghost use Rattle.data_types.specs.TypedView.{kids_of};
+ghost use Rattle.list_cols.specs.promise.Faults.{first_wrong};
+ghost use Rattle.list_cols.specs.promise.NestFaults.{nests};
 
 use column_fill::is_flat_column;
 use data_types::{Typed, kinds_of_typed};

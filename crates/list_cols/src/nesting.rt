@@ -1,20 +1,22 @@
 //! Rows that are grouped by the values of a column.
 ghost use Rattle.std.specs.Prelude.{◌≡◌, ◌≢◌, ◌+◌, ◌-◌, ◌*◌, ◌<◌, ◌≤◌, ℕ, None, Some, IfOk, IfErr, OnOk, MatchResult, length};
-ghost use Rattle.tree_model.specs.Tree.{children_of};
+ghost use Rattle.tree_model.specs.promise.TreeParts.{children_of};
 ghost use Rattle.data_types.specs.KindTrees.{TypedOk};
-ghost use Rattle.data_types.specs.TypedView.{typed_of};
-ghost use Rattle.layout_rules.specs.Values.{rows_of};
-ghost use Rattle.layout_rules.specs.Walk.{ChunkOk};
-ghost use Rattle.raw_array.specs.Members.{Cost};
-ghost use Rattle.raw_schema.specs.Members.{Nodes};
-ghost use Rattle.schema_check.specs.Schemas.{TypedOf};
-ghost use Rattle.unit_pass.specs.Tally.{risen};
+ghost use Rattle.data_types.specs.promise.TypedView.{typed_of};
+ghost use Rattle.layout_rules.specs.promise.Values.{rows_of};
+ghost use Rattle.layout_rules.specs.promise.Walk.{ChunkOk};
+ghost use Rattle.raw_array.specs.promise.Members.{Cost};
+ghost use Rattle.tree_model.specs.promise.TreeCost.{Nodes};
+ghost use Rattle.schema_check.specs.promise.Schemas.{TypedOf};
+ghost use Rattle.unit_pass.specs.promise.Tally.{risen};
 ghost use Rattle.unit_pass.specs.declared.pass.TheConstants.{CHUNK, SUPPLY};
-ghost use Rattle.list_cols.specs.Faults.{IsRefusedBy, first_wrong, most_columns, most_named};
-ghost use Rattle.list_cols.specs.NestFaults.{nest_fault, nests};
-ghost use Rattle.list_cols.specs.Nested.{Nest};
+ghost use Rattle.list_cols.specs.promise.Faults.{first_wrong, most_columns, most_named};
+ghost use Rattle.list_cols.specs.Faults.{IsRefusedBy};
+ghost use Rattle.list_cols.specs.promise.NestFaults.{nest_fault, nests};
+ghost use Rattle.list_cols.specs.promise.Nested.{Nest};
 ghost use Rattle.list_cols.specs.NestedFields.{nested_schema};
-ghost use Rattle.list_cols.specs.NestedTables.{nested_array, nested_blocks, nested_type};
+ghost use Rattle.list_cols.specs.promise.NestedTables.{nested_array, nested_blocks};
+ghost use Rattle.list_cols.specs.NestedTables.{nested_type};
 
 use crate::fault::ListFault;
 use crate::nest_laws::{nested_schemas_have_their_kinds, nested_tables_have_their_rows};

@@ -3,13 +3,13 @@ ghost use Rattle.std.specs.Prelude.{◌<◌, length};
 ghost use Rattle.arr_import.specs.Cols.{window_of};
 ghost use Rattle.arr_import.specs.Window.{item_at};
 ghost use Rattle.data_types.specs.KindTrees.{TypedOk};
-ghost use Rattle.data_types.specs.TypedView.{typed_of};
-ghost use Rattle.layout_rules.specs.Values.{rows_of};
-ghost use Rattle.layout_rules.specs.Walk.{ChunkOk};
-ghost use Rattle.tree_model.specs.Tree.{children_of};
+ghost use Rattle.data_types.specs.promise.TypedView.{typed_of};
+ghost use Rattle.layout_rules.specs.promise.Values.{rows_of};
+ghost use Rattle.layout_rules.specs.promise.Walk.{ChunkOk};
+ghost use Rattle.tree_model.specs.promise.TreeParts.{children_of};
 ghost use Rattle.list_cols.specs.Faults.{IsNamed};
 ghost use Rattle.list_cols.specs.Listed.{listed};
-ghost use Rattle.list_cols.specs.Nested.{Explode};
+ghost use Rattle.list_cols.specs.promise.Nested.{Explode};
 
 use crate::kinds::list_column;
 use crate::runs::{MOST_NAMED, count_items, list_length};

@@ -2,9 +2,9 @@
 ghost use Rattle.std.specs.Prelude.{◌≡◌, ◌+◌, ◌^◌, ◌<◌, ◌≤◌, [], IfNone, IfOk, IfSome, length};
 ghost use Rattle.arr_import.specs.Cols.{window_of};
 ghost use Rattle.arr_import.specs.Window.{item_at, items_of};
-ghost use Rattle.layout_rules.specs.Rules.{window_limit};
+ghost use Rattle.layout_rules.specs.promise.Rules.{window_limit};
 ghost use Rattle.list_cols.specs.Listed.{list_runs};
-ghost use Rattle.list_cols.specs.Nested.{items_in};
+ghost use Rattle.list_cols.specs.promise.Nested.{items_in};
 
 use arr_import::{Col, ValueRef};
 use column_fill::Run;

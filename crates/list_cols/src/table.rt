@@ -1,18 +1,19 @@
 //! The array of the rows whose lists are spread out.
 ghost use Rattle.std.specs.Prelude.{◌≡◌, ◌⊎◌, ◌<◌, ◌≤◌, ◌+◌, ◌≤ℤ◌, ◌≢◌, pos, true, false, IfOk, IfErr, OnOk, MatchResult, length};
-ghost use Rattle.col_build.specs.Encoding.{narrow_limit};
+ghost use Rattle.col_build.specs.promise.Encoding.{narrow_limit};
 ghost use Rattle.data_types.specs.KindTrees.{TypedOk};
-ghost use Rattle.data_types.specs.TypedView.{typed_of};
-ghost use Rattle.layout_rules.specs.Layout.{first};
-ghost use Rattle.layout_rules.specs.Values.{rows_of};
-ghost use Rattle.layout_rules.specs.Walk.{ChunkOk};
-ghost use Rattle.raw_array.specs.Members.{Cost, members_of};
-ghost use Rattle.tree_model.specs.Tree.{IsLive, children_of};
-ghost use Rattle.unit_pass.specs.Tally.{risen};
+ghost use Rattle.data_types.specs.promise.TypedView.{typed_of};
+ghost use Rattle.layout_rules.specs.promise.Layout.{first};
+ghost use Rattle.layout_rules.specs.promise.Values.{rows_of};
+ghost use Rattle.layout_rules.specs.promise.Walk.{ChunkOk};
+ghost use Rattle.raw_array.specs.promise.Members.{Cost, members_of};
+ghost use Rattle.tree_model.specs.promise.TreeParts.{IsLive, children_of};
+ghost use Rattle.unit_pass.specs.promise.Tally.{risen};
 ghost use Rattle.unit_pass.specs.declared.pass.TheConstants.{CHUNK};
-ghost use Rattle.list_cols.specs.Exploded.{exploded_array, exploded_blocks, exploded_kinds};
-ghost use Rattle.list_cols.specs.Faults.{is_too_long, most_columns, most_named};
-ghost use Rattle.list_cols.specs.Nested.{Explode};
+ghost use Rattle.list_cols.specs.promise.Exploded.{exploded_blocks, exploded_kinds};
+ghost use Rattle.list_cols.specs.Exploded.{exploded_array};
+ghost use Rattle.list_cols.specs.promise.Faults.{is_too_long, most_columns, most_named};
+ghost use Rattle.list_cols.specs.promise.Nested.{Explode};
 ghost use Rattle.list_cols.specs.Spreading.{AllFit, CanSpread, chunk_runs};
 
 use crate::columns::new_columns;

@@ -3,10 +3,10 @@ ghost use Rattle.std.specs.Prelude.{◌≡◌, ◌+◌, ◌*◌, ◌^◌, ◌<�
 ghost use Rattle.std.specs.List.{flat_map};
 ghost use Rattle.arr_import.specs.Cols.{window_of};
 ghost use Rattle.arr_import.specs.Window.{item_at, items_of};
-ghost use Rattle.data_types.specs.Value.{byte_total, bytes_of};
-ghost use Rattle.layout_rules.specs.Rules.{window_limit};
+ghost use Rattle.data_types.specs.promise.Value.{byte_total, bytes_of};
+ghost use Rattle.layout_rules.specs.promise.Rules.{window_limit};
 ghost use Rattle.list_cols.specs.Listed.{HasTotal, listed};
-ghost use Rattle.list_cols.specs.Nested.{items_in};
+ghost use Rattle.list_cols.specs.promise.Nested.{items_in};
 
 use crate::runs::{count_items, list_at};
 use arr_import::Col;

@@ -1,15 +1,15 @@
 //! What the schema and the array are that are made.
 ghost use Rattle.std.specs.Prelude.{◌≡◌, ◌≤◌, length};
 ghost use Rattle.data_types.specs.KindTrees.{TypedOk};
-ghost use Rattle.data_types.specs.TypedView.{typed_of};
-ghost use Rattle.layout_rules.specs.Rules.{window_limit};
-ghost use Rattle.layout_rules.specs.Values.{rows_of};
-ghost use Rattle.layout_rules.specs.Walk.{ChunkOk};
-ghost use Rattle.raw_schema.specs.Members.{SchemaTree};
-ghost use Rattle.schema_check.specs.Schemas.{TypedOf};
+ghost use Rattle.data_types.specs.promise.TypedView.{typed_of};
+ghost use Rattle.layout_rules.specs.promise.Rules.{window_limit};
+ghost use Rattle.layout_rules.specs.promise.Values.{rows_of};
+ghost use Rattle.layout_rules.specs.promise.Walk.{ChunkOk};
+ghost use Rattle.raw_schema.specs.promise.Members.{SchemaTree};
+ghost use Rattle.schema_check.specs.promise.Schemas.{TypedOf};
 ghost use Rattle.list_cols.specs.Exploded.{exploded_array, exploded_type};
 ghost use Rattle.list_cols.specs.Fields.{HasList, exploded_schema};
-ghost use Rattle.list_cols.specs.Nested.{Explode};
+ghost use Rattle.list_cols.specs.promise.Nested.{Explode};
 ghost use Rattle.list_cols.specs.Spreading.{AllFit, CanSpread};
 
 use crate::laws::flat_tables_have_their_rows;

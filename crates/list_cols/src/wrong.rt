@@ -1,8 +1,9 @@
 //! Which column is at fault.
 ghost use Rattle.std.specs.Prelude.{◌≡◌, ◌<◌, ◌^◌, length};
-ghost use Rattle.tree_model.specs.Tree.{children_of};
-ghost use Rattle.data_types.specs.TypedView.{typed_of, kids_of};
-ghost use Rattle.list_cols.specs.Faults.{explodes, first_wrong, is_flat_list};
+ghost use Rattle.tree_model.specs.promise.TreeParts.{children_of};
+ghost use Rattle.data_types.specs.promise.TypedView.{typed_of};
+ghost use Rattle.data_types.specs.TypedView.{kids_of};
+ghost use Rattle.list_cols.specs.promise.Faults.{explodes, first_wrong, is_flat_list};
 
 use column_fill::is_flat_column;
 use data_types::{DataType, Typed, kinds_of_typed};

@@ -6,14 +6,15 @@ use Rattle.col_build.specs.Holding.{Holds, Takes}
 use Rattle.col_build.specs.declared.builder.Builder.{Builder}
 use Rattle.column_fill.specs.Tables.{FitsRows, rows_with}
 use Rattle.data_types.specs.FieldText.{IsValueOf}
-use Rattle.data_types.specs.Value.{Value, Whole}
-use Rattle.raw_array.specs.Members.{ArrayTree}
+use Rattle.data_types.specs.promise.Value.{Value, Whole}
+use Rattle.raw_array.specs.promise.Members.{ArrayTree}
 use Rattle.stream_face.proofs.Producers.{counts-nothing}
 use Rattle.stream_face.specs.Calls.{Counts}
 use Rattle.stream_face.specs.Lawful.{IsTable, LawfulTables}
 use Rattle.stream_face.specs.Raw.{raw_joints}
 use Rattle.stream_face.specs.Streams.{Stream}
-use Rattle.unit_pass.specs.Tally.{Tally, risen}
+use Rattle.unit_pass.specs.promise.Tally.{risen}
+use Rattle.unit_pass.specs.Tally.{Tally}
 use Rattle.number_stream.specs.Numbers.{ahead_at, due_at, number_columns, number_values, numbers}
 use Rattle.number_stream.specs.declared.numbers.Next.{Next}
 use Rattle.number_stream.specs.declared.numbers.Next.TheVariants as next

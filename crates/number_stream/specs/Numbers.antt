@@ -1,11 +1,11 @@
 -- What the stream means: one chunk of three whole numbers, and then its end.
 use Rattle.std.specs.Prelude.{pos, Bool, true, false, not, List, [], ◌∷◌, Option, None, Some, codes}
-use Rattle.arr_export.specs.ValueColumns.{TypedValues}
+use Rattle.arr_export.specs.promise.ValueColumns.{TypedValues}
 use Rattle.column_fill.specs.Tables.{NamedValues, chunk_with, columns_with, rows_with}
-use Rattle.data_types.specs.Table.{Column, Row}
-use Rattle.data_types.specs.Value.{Whole}
+use Rattle.data_types.specs.promise.Table.{Column, Row}
+use Rattle.data_types.specs.promise.Value.{Whole}
 use Rattle.data_types.specs.declared.kind.DataType.TheVariants.{Int}
-use Rattle.raw_array.specs.Members.{ArrayTree}
+use Rattle.raw_array.specs.promise.Members.{ArrayTree}
 use Rattle.stream_face.specs.Streams.{Stream, Traffic}
 use Rattle.stream_face.specs.Texts.{Refusal, wanting}
 use Rattle.number_stream.specs.declared.numbers.Next.{Next}

@@ -3,8 +3,8 @@ ghost use Rattle.std.specs.Prelude.{◌≡◌, ◌≤◌, ◌+◌, IfOk, OnErr, 
 ghost use Rattle.arr_export.specs.ValueColumns.{plain_tree};
 ghost use Rattle.col_build.specs.Holding.{Holds};
 ghost use Rattle.data_types.specs.ColumnView.{column_of};
-ghost use Rattle.raw_array.specs.Members.{Cost};
-ghost use Rattle.unit_pass.specs.Tally.{risen};
+ghost use Rattle.raw_array.specs.promise.Members.{Cost};
+ghost use Rattle.unit_pass.specs.promise.Tally.{risen};
 ghost use Rattle.unit_pass.specs.declared.pass.TheConstants.{ROOM};
 ghost use Rattle.number_stream.specs.Numbers.{number_chunk, number_columns, numbers};
 

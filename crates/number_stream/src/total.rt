@@ -1,8 +1,8 @@
 //! The consumer: it takes the chunks of a stream and adds up their first column.
 ghost use Rattle.std.specs.Prelude.{◌≡◌, ◌≤◌, ◌+◌, [], IsTrue};
 ghost use Rattle.data_types.specs.KindTrees.{TypedOk};
-ghost use Rattle.data_types.specs.TypedView.{typed_of};
-ghost use Rattle.layout_rules.specs.Walk.{ChunkOk};
+ghost use Rattle.data_types.specs.promise.TypedView.{typed_of};
+ghost use Rattle.layout_rules.specs.promise.Walk.{ChunkOk};
 ghost use Rattle.stream_face.specs.Meaning.{meaning};
 ghost use Rattle.stream_face.specs.Streams.{kept};
 ghost use Rattle.unit_pass.specs.declared.pass.TheConstants.{CHUNK, ROOM, SUPPLY};

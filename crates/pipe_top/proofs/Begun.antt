@@ -1,18 +1,19 @@
 -- What follows of a table from what is between its header and its rows.
 use Rattle.std.proofs.Common.{◌≡◌, ◌∙◌, ◌⊎◌, ℕ, List, [], None, Some, Result, Ok, Err, IsTrue, true, false, ap, refl, subst, sym}
-use Rattle.csv_model.specs.Reading.{Record}
-use Rattle.csv_model.specs.Text.{table_text}
-use Rattle.data_types.specs.Parts.{joined_rows}
+use Rattle.csv_model.specs.promise.Reading.{Record}
+use Rattle.csv_model.specs.promise.Text.{table_text}
+use Rattle.data_types.specs.promise.Parts.{joined_rows}
 use Rattle.stages.specs.Structs.{column_structs}
-use Rattle.run_model.specs.Answer.{Fault, Request, Text}
+use Rattle.run_model.specs.promise.Answer.{Fault, Request, Text}
 use Rattle.run_model.specs.declared.fault.RunFault.{RunFault}
 use Rattle.run_model.specs.declared.fault.RunFault.TheVariants as run
 use Rattle.stage_chain.specs.Chains.{chain_links, chain_traffic}
 use Rattle.stage_chain.specs.Plans.{plan_stages}
 use Rattle.stage_chain.proofs.Planning.{plan-stages-are}
-use Rattle.stage_model.specs.Links.{BatchesGiveTheWhole, Whole}
-use Rattle.stage_model.specs.Stages.{table}
-use Rattle.stage_model.specs.Typing.{plan_of}
+use Rattle.stage_model.specs.promise.Links.{Whole}
+use Rattle.stage_model.specs.Links.{BatchesGiveTheWhole}
+use Rattle.stage_model.specs.promise.Stages.{table}
+use Rattle.stage_model.specs.promise.Typing.{plan_of}
 use Rattle.stage_model.specs.declared.stage.StageText.{StageText}
 use Rattle.stage_plan.specs.PlanWords.{IsPlan}
 use Rattle.stage_plan.specs.declared.typing.Plan.{Plan}
@@ -22,11 +23,11 @@ use Rattle.csv_write.specs.Runs.{Counted}
 use Rattle.csv_write.specs.declared.fault.DriveFault.{DriveFault}
 use Rattle.csv_write.specs.declared.fault.DriveFault.TheVariants as drives
 use Rattle.unit_pass.specs.Tally.{Tally}
-use Rattle.run_model.specs.RunAnswer.{answer_of_records}
+use Rattle.run_model.specs.promise.RunAnswer.{answer_of_records}
 use Rattle.pipe_top.specs.ChainFaults.{fault_of_chain}
 use Rattle.pipe_top.specs.Begun.{IsBegun}
-use Rattle.pipe_top.specs.Over.{is_behind_records}
-use Rattle.pipe_top.specs.Traffic.{LinksTraffic, links_of}
+use Rattle.pipe_top.specs.promise.Over.{is_behind_records}
+use Rattle.pipe_top.specs.promise.Traffic.{LinksTraffic, links_of}
 use Rattle.pipe_top.proofs.Bodies.{driven-text, driven-told}
 use Rattle.pipe_top.proofs.Flat.{proper-flat}
 use Rattle.pipe_top.proofs.LinksMade.{chain-counts, chain-links-are}

@@ -1,31 +1,32 @@
 -- The answer to the records of a text, from what its parts come to.
 use Rattle.std.proofs.Common.{◌≡◌, ◌≢◌, ◌∙◌, ◌⊎◌, ℕ, List, [], None, Some, Result, Ok, Err, ap, sym, refl, inl, inr}
-use Rattle.csv_model.specs.Batches.{batches_if, batches_in, rows_before}
-use Rattle.csv_model.specs.Header.{header_of}
-use Rattle.csv_model.specs.Reading.{Record, behind_header, body}
-use Rattle.csv_model.specs.Text.{table_text}
+use Rattle.csv_model.specs.promise.Batches.{batches_if, batches_in, rows_before}
+use Rattle.csv_model.specs.promise.Header.{header_of}
+use Rattle.csv_model.specs.promise.Reading.{Record, behind_header, body}
+use Rattle.csv_model.specs.promise.Text.{table_text}
 use Rattle.csv_model.specs.declared.fault.HeaderFault.{HeaderFault}
 use Rattle.csv_model.specs.declared.fault.HeaderFault.TheVariants as header
-use Rattle.stage_plan.specs.Entries.{entries_of}
+use Rattle.stage_plan.specs.promise.Entries.{entries_of}
 use Rattle.csv_source.specs.Sources.{stream_of}
-use Rattle.data_types.specs.Parts.{joined_rows}
-use Rattle.data_types.specs.Table.{Column, Row}
+use Rattle.data_types.specs.promise.Parts.{joined_rows}
+use Rattle.data_types.specs.promise.Table.{Column, Row}
 use Rattle.data_types.specs.declared.row_fault.RowFault.{RowFault}
 use Rattle.csv_write.specs.Faults.{IfRow}
 use Rattle.csv_write.specs.declared.fault.DriveFault.{DriveFault}
 use Rattle.csv_write.specs.declared.fault.DriveFault.TheVariants as chain
-use Rattle.stage_model.specs.Links.{BatchesGiveTheWhole, Whole}
-use Rattle.stage_model.specs.Stages.{table}
-use Rattle.stage_model.specs.Typing.{Stage, plan_of}
+use Rattle.stage_model.specs.promise.Links.{Whole}
+use Rattle.stage_model.specs.Links.{BatchesGiveTheWhole}
+use Rattle.stage_model.specs.promise.Stages.{table}
+use Rattle.stage_model.specs.promise.Typing.{Stage, plan_of}
 use Rattle.stage_model.specs.declared.fault.PlanFault.{PlanFault}
 use Rattle.stage_model.specs.declared.fault.PlanFault.TheVariants as plan
 use Rattle.stage_model.specs.declared.stage.StageText.{StageText}
 use Rattle.stage_plan.specs.declared.types.TypeEntry.{TypeEntry}
 use Rattle.stream_face.specs.Streams.{Stream}
-use Rattle.run_model.specs.Answer.{Fault, Request, Text, fault_of_header, fault_of_plan, fault_of_row}
+use Rattle.run_model.specs.promise.Answer.{Fault, Request, Text, fault_of_header, fault_of_plan, fault_of_row}
 use Rattle.run_model.specs.declared.fault.RunFault.{RunFault}
 use Rattle.run_model.specs.declared.fault.RunFault.TheVariants as run
-use Rattle.run_model.specs.RunAnswer.{answer_of_columns, answer_of_plan, answer_of_records, answer_of_rows}
+use Rattle.run_model.specs.promise.RunAnswer.{answer_of_columns, answer_of_plan, answer_of_records, answer_of_rows}
 use Rattle.pipe_top.specs.ChainFaults.{fault_of_chain}
 
 -- ---- the header

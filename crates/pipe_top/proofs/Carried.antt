@@ -4,32 +4,34 @@ use Rattle.std.proofs.Common.{IfErr, IfOk, IsErrAnd, OnOk, ap, arith, refl, subs
 use Rattle.std.proofs.lemmas.Bool.Decides.{nat_tests}
 use Rattle.std.proofs.lemmas.List.{append-nil}
 use Rattle.std.specs.Io.KnownBytes.{Keeps}
-use Rattle.data_types.specs.Table.{Column, Row}
+use Rattle.data_types.specs.promise.Table.{Column, Row}
 use Rattle.data_types.specs.declared.row_fault.RowFault.{RowFault}
 use Rattle.data_types.specs.declared.row_fault.RowFault.TheVariants as row
-use Rattle.csv_model.specs.Header.{header_of}
-use Rattle.csv_model.specs.Reading.{Record, behind_header, body, records_of}
+use Rattle.csv_model.specs.promise.Header.{header_of}
+use Rattle.csv_model.specs.promise.Reading.{Record, behind_header, body, records_of}
 use Rattle.csv_model.specs.declared.fault.HeaderFault.{HeaderFault}
 use Rattle.csv_model.specs.declared.fault.HeaderFault.TheVariants as header
-use Rattle.stage_plan.specs.Entries.{entries_of}
-use Rattle.stage_model.specs.Typing.{Stage, plan_of}
+use Rattle.stage_plan.specs.promise.Entries.{entries_of}
+use Rattle.stage_model.specs.promise.Typing.{Stage, plan_of}
 use Rattle.stage_model.specs.declared.fault.PlanFault.{PlanFault}
 use Rattle.stage_model.specs.declared.fault.PlanFault.TheVariants as plan
-use Rattle.edge_io.specs.Edge.{LosesWithin}
-use Rattle.stream_face.specs.Shown.{Seen, of_link}
-use Rattle.tree_check.specs.Checks.{Checked}
-use Rattle.run_model.specs.Answer.{Answer, Text, Fault, Request, Task, Table, Tree, Cause, OfWords}
-use Rattle.run_model.specs.Answer.{OfTexts, OfPlan, OfRecords, OfTree, OfLength, Reading, Writing, Memory}
-use Rattle.run_model.specs.Answer.{cause_of, fault_of_header, fault_of_plan}
-use Rattle.run_model.specs.Outcomes.{AtWriteFault, AtWriting, decides_early, is_decided, is_early, is_write_fault, is_writing}
+use Rattle.edge_io.specs.promise.Edge.{LosesWithin}
+use Rattle.stream_face.specs.promise.Shown.{Seen, of_link}
+use Rattle.tree_check.specs.promise.Checks.{Checked}
+use Rattle.run_model.specs.promise.Answer.{Answer, Text, Fault, Request, Task, Table, Tree, Cause, OfWords}
+use Rattle.run_model.specs.promise.Answer.{OfTexts, OfPlan, OfRecords, OfTree, OfLength, Reading, Writing, Memory}
+use Rattle.run_model.specs.promise.Answer.{cause_of, fault_of_header, fault_of_plan}
+use Rattle.run_model.specs.promise.Outcomes.{AtWriteFault, AtWriting, decides_early, is_decided, is_early, is_write_fault, is_writing}
 use Rattle.run_model.specs.declared.fault.RunFault.{RunFault}
 use Rattle.run_model.specs.declared.fault.RunFault.TheVariants as run
-use Rattle.run_model.specs.RunAnswer.{AnswersBytes, AnswersWithin, AreBytes, IsTooLong, answer_of_check, answer_of_columns, answer_of_plan}
-use Rattle.run_model.specs.RunAnswer.{answer_of_rows, input_limit, IsAnswerTo}
-use Rattle.run_model.specs.RunOutcomes.{IsRead}
-use Rattle.pipe_top.specs.Over.{CarriedOver, is_behind_records}
-use Rattle.pipe_top.specs.Ran.{ReadFor}
-use Rattle.pipe_top.specs.Traffic.{CountsTask, ShowsAsked, ShowsTask}
+use Rattle.run_model.specs.promise.RunAnswer.{AnswersBytes, AnswersWithin, AreBytes, answer_of_check, answer_of_columns, answer_of_plan}
+use Rattle.run_model.specs.RunAnswer.{IsTooLong}
+use Rattle.run_model.specs.promise.RunAnswer.{answer_of_rows, input_limit, IsAnswerTo}
+use Rattle.run_model.specs.promise.RunOutcomes.{IsRead}
+use Rattle.pipe_top.specs.promise.Over.{is_behind_records}
+use Rattle.pipe_top.specs.Over.{CarriedOver}
+use Rattle.pipe_top.specs.promise.Ran.{ReadFor}
+use Rattle.pipe_top.specs.promise.Traffic.{CountsTask, ShowsAsked, ShowsTask}
 use Rattle.pipe_top.proofs.Written.{answered, not-long, shown-within, some-bytes}
 
 -- ---- a result that is known

@@ -2,9 +2,9 @@
 use Rattle.std.proofs.Common.{◌≡◌, ◌≤◌, ◌*◌, ℕ, Bool, true, false, List, [], ◌∷◌, map, length, get_or, refl, sym, ap, subst, true≢false, arith}
 use Rattle.std.proofs.lemmas.List.{length-append, length-map}
 use Rattle.std.specs.List.{flat_map}
-use Rattle.data_types.specs.Parts.{picked}
+use Rattle.data_types.specs.promise.Parts.{picked}
 use Rattle.data_types.specs.ColumnView.{column_of}
-use Rattle.data_types.specs.Table.{Column}
+use Rattle.data_types.specs.promise.Table.{Column}
 use Rattle.data_types.specs.declared.kind.ColumnType.{ColumnType}
 use Rattle.stages.specs.Distinct.{DistinctPicks}
 use Rattle.dict_stage.specs.Recoded.{RecodeFits}
@@ -13,7 +13,8 @@ use Rattle.stage_kernels.specs.Packs.{PackFits}
 use Rattle.stage_kernels.specs.Picks.{PickFits}
 use Rattle.stage_kernels.specs.Unpacks.{UnpackFits}
 use Rattle.stages.specs.Structs.{column_structs, most_structs}
-use Rattle.stage_model.specs.Typing.{FitsColumns, HasColumns, no_column, totals_columns}
+use Rattle.stage_model.specs.promise.Typing.{no_column, totals_columns}
+use Rattle.stage_model.specs.Typing.{FitsColumns, HasColumns}
 use Rattle.stage_model.specs.declared.stage.Const.{Const}
 use Rattle.stage_model.specs.declared.stage.Test.{Test}
 use Rattle.stage_model.specs.declared.stage.Step.{Step}

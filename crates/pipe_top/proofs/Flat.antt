@@ -3,7 +3,7 @@ use Rattle.std.proofs.Common.{◌≡◌, ◌<◌, zero, suc, List, [], ◌∷◌
 use Rattle.std.proofs.lemmas.List.{get_or-map, length-map}
 use Rattle.data_types.specs.ColumnForms.{KindsOk}
 use Rattle.data_types.specs.ColumnView.{column_of, kind_of}
-use Rattle.data_types.specs.Table.{Column}
+use Rattle.data_types.specs.promise.Table.{Column}
 use Rattle.data_types.specs.declared.kind.ColumnType.{ColumnType}
 use Rattle.field_codec.specs.TextColumns.{AreProper}
 use Rattle.stages.specs.Structs.{column_structs, structs}

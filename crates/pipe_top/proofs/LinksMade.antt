@@ -1,21 +1,22 @@
 -- What a chain over the batches of a text shows and counts are its links.
 use Rattle.std.proofs.Common.{◌≡◌, ◌∙◌, List, None, Ok, ap, sym, subst}
 use Rattle.std.proofs.lemmas.List.Sums.{sum_by-cons}
-use Rattle.csv_model.specs.Batches.{Chunks, batches_in}
-use Rattle.csv_model.specs.Header.{header_of}
-use Rattle.csv_model.specs.Reading.{Record, behind_header}
-use Rattle.stage_plan.specs.Entries.{entries_of}
+use Rattle.csv_model.specs.promise.Batches.{Chunks, batches_in}
+use Rattle.csv_model.specs.promise.Header.{header_of}
+use Rattle.csv_model.specs.promise.Reading.{Record, behind_header}
+use Rattle.stage_plan.specs.promise.Entries.{entries_of}
 use Rattle.csv_source.specs.Sources.{stream_of}
-use Rattle.data_types.specs.Table.{Column}
+use Rattle.data_types.specs.promise.Table.{Column}
 use Rattle.stage_chain.specs.Chains.{chain_links, chain_traffic}
 use Rattle.csv_write.specs.Runs.{Counted}
-use Rattle.stage_model.specs.Links.{Link, Links, links_behind}
-use Rattle.stage_model.specs.Traffic.{link_blocks, link_nodes}
-use Rattle.stage_model.specs.Typing.{Stage, plan_of}
+use Rattle.stage_model.specs.promise.Links.{Link, Links, links_behind}
+use Rattle.stage_model.specs.promise.Traffic.{link_blocks, link_nodes}
+use Rattle.stage_model.specs.promise.Typing.{Stage, plan_of}
 use Rattle.stream_face.specs.Streams.{Stream}
-use Rattle.unit_pass.specs.Tally.{Tally, risen}
-use Rattle.run_model.specs.Answer.{Request}
-use Rattle.pipe_top.specs.Traffic.{LinksTraffic, links_behind_header, links_of, links_planned}
+use Rattle.unit_pass.specs.promise.Tally.{risen}
+use Rattle.unit_pass.specs.Tally.{Tally}
+use Rattle.run_model.specs.promise.Answer.{Request}
+use Rattle.pipe_top.specs.promise.Traffic.{LinksTraffic, links_behind_header, links_of, links_planned}
 
 module _ (request : Request) (records : List Record) (columns : List Column) (found : header_of (entries_of request.entries) records ≡ Ok columns)
     (stages : List Stage) (planned : plan_of columns request.stages ≡ Ok stages) where

@@ -1,27 +1,27 @@
 -- No answer is a fault with an out-of-memory inside it.
 use Rattle.std.proofs.Common.{◌≡◌, ◌∙◌, ◌+◌, ℕ, Bool, true, false, List, [], ◌∷◌, suc, Option, None, Some, Result, Ok, Err, ap, inl, inr, refl}
 use Rattle.std.specs.Option.{ok_or}
-use Rattle.data_types.specs.Table.{Column, Row}
+use Rattle.data_types.specs.promise.Table.{Column, Row}
 use Rattle.data_types.specs.declared.row_fault.RowFault.{RowFault}
 use Rattle.data_types.specs.declared.row_fault.RowFault.TheVariants as row
-use Rattle.csv_model.specs.Header.{header_of}
-use Rattle.csv_model.specs.Reading.{Record, behind_header, body, records_of}
+use Rattle.csv_model.specs.promise.Header.{header_of}
+use Rattle.csv_model.specs.promise.Reading.{Record, behind_header, body, records_of}
 use Rattle.csv_model.specs.declared.fault.HeaderFault.{HeaderFault}
 use Rattle.csv_model.specs.declared.fault.HeaderFault.TheVariants as header
-use Rattle.stage_plan.specs.Entries.{entries_of}
+use Rattle.stage_plan.specs.promise.Entries.{entries_of}
 use Rattle.fmt_string.specs.declared.fault.FormatFault.TheVariants as format
-use Rattle.data_types.specs.KindTrees.{KindTree}
-use Rattle.data_types.specs.Ways.{Steps}
-use Rattle.layout_rules.specs.Walk.{Fault as ArrayFault, first_fault}
-use Rattle.raw_array.specs.Members.{ArrayTree}
-use Rattle.raw_schema.specs.Members.{SchemaMembers, SchemaTree}
-use Rattle.schema_check.specs.SchemaAnswers.{FirstFault, SchemaReads}
-use Rattle.schema_check.specs.Schemas.{DictFault, FailsHere, FaultFrom, KidFault}
+use Rattle.data_types.specs.promise.KindTrees.{KindTree}
+use Rattle.data_types.specs.promise.Ways.{Steps}
+use Rattle.layout_rules.specs.promise.Walk.{Fault as ArrayFault, first_fault}
+use Rattle.raw_array.specs.promise.Members.{ArrayTree}
+use Rattle.raw_schema.specs.promise.Members.{SchemaMembers, SchemaTree}
+use Rattle.schema_check.specs.promise.SchemaAnswers.{FirstFault, SchemaReads}
+use Rattle.schema_check.specs.promise.Schemas.{DictFault, FailsHere, FaultFrom, KidFault}
 use Rattle.schema_check.specs.declared.rule.SchemaRule.{SchemaRule}
 use Rattle.schema_check.specs.declared.rule.SchemaRule.TheVariants as rules
 use Rattle.schema_meta.specs.declared.fault.MetaFault.TheVariants as meta
-use Rattle.stage_model.specs.StageGrammar.{Cut, StageWord, cut_at, equals_sign, read_by, stage_cut, stage_of, stage_words, word_named}
-use Rattle.stage_model.specs.Typing.{Stage, plan_of}
+use Rattle.stage_model.specs.promise.StageGrammar.{Cut, StageWord, cut_at, equals_sign, read_by, stage_cut, stage_of, stage_words, word_named}
+use Rattle.stage_model.specs.promise.Typing.{Stage, plan_of}
 use Rattle.stage_model.specs.declared.fault.PlanFault.{PlanFault}
 use Rattle.stage_model.specs.declared.fault.PlanFault.TheVariants as plan
 use Rattle.stage_model.specs.declared.fault.StageFault.{StageFault}
@@ -30,21 +30,21 @@ use Rattle.stage_model.specs.declared.stage.StageText.{StageText}
 use Rattle.stage_plan.specs.declared.fault.TypesFault.{TypesFault}
 use Rattle.stage_plan.specs.declared.fault.TypesFault.TheVariants as types
 use Rattle.stage_plan.specs.declared.types.TypeEntry.{TypeEntry}
-use Rattle.tree_check.specs.Checks.{Checked, ReadComes, array_if, kinds_checked}
-use Rattle.tree_model.specs.Tree.{Released, Live, Trees, no_trees, more_trees, MaybeTree, absent, present}
-use Rattle.tree_text.specs.Answers.{Reads}
+use Rattle.tree_check.specs.promise.Checks.{Checked, ReadComes, array_if, kinds_checked}
+use Rattle.tree_model.specs.promise.TreeData.{Released, Live, Trees, no_trees, more_trees, MaybeTree, absent, present}
+use Rattle.tree_text.specs.promise.Answers.{Reads}
 use Rattle.tree_text.specs.declared.fault.TextFault.{TextFault}
 use Rattle.tree_text.specs.declared.fault.TextFault.TheVariants as texts
-use Rattle.run_model.specs.Words.{Options, words_of}
+use Rattle.run_model.specs.promise.Words.{Options, words_of}
 use Rattle.run_model.specs.declared.words.WordsFault.{WordsFault}
-use Rattle.run_model.specs.Answer.{Answer, EntriesAsk, Fault, OptionsAsk, Request, StagesAsk, Table, Task, TaskIs, Text, Tree, asked_by}
-use Rattle.run_model.specs.Answer.{meant_by, request_with, stage_before, stages_from, table_of}
-use Rattle.run_model.specs.MemoryFaults.{has_memory_inside, is_stage_memory, is_text_memory, rule_has_memory}
-use Rattle.run_model.specs.Outcomes.{is_decided}
+use Rattle.run_model.specs.promise.Answer.{Answer, EntriesAsk, Fault, OptionsAsk, Request, StagesAsk, Table, Task, TaskIs, Text, Tree, asked_by}
+use Rattle.run_model.specs.promise.Answer.{meant_by, request_with, stage_before, stages_from, table_of}
+use Rattle.run_model.specs.promise.MemoryFaults.{has_memory_inside, is_stage_memory, is_text_memory, rule_has_memory}
+use Rattle.run_model.specs.promise.Outcomes.{is_decided}
 use Rattle.run_model.specs.declared.fault.RunFault.{RunFault}
 use Rattle.run_model.specs.declared.fault.RunFault.TheVariants as run
-use Rattle.run_model.specs.RunAnswer.{AnswersWithin, IsAnswer, IsAnswerTo, answer_of_check, answer_of_columns, answer_of_plan}
-use Rattle.run_model.specs.RunAnswer.{answer_of_rows, is_too_long}
+use Rattle.run_model.specs.promise.RunAnswer.{AnswersWithin, IsAnswer, IsAnswerTo, answer_of_check, answer_of_columns, answer_of_plan}
+use Rattle.run_model.specs.promise.RunAnswer.{answer_of_rows, is_too_long}
 
 -- ---- of a result and of an answer
 

@@ -1,18 +1,18 @@
 -- The words ask for one thing, and so there is one answer.
 use Rattle.std.proofs.Common.{◌≡◌, ◌∙◌, ℕ, Bool, true, false, List, [], Option, None, Some, Result, Ok, Err, ap, refl, subst, sym}
 use Rattle.stage_model.specs.declared.stage.StageText.{StageText}
-use Rattle.stage_plan.specs.Types.{Reads}
+use Rattle.stage_plan.specs.promise.Types.{Reads}
 use Rattle.stage_plan.specs.declared.fault.TypesFault.{TypesFault}
 use Rattle.stage_plan.specs.declared.types.TypeEntry.{TypeEntry}
-use Rattle.csv_model.specs.Reading.{records_of}
-use Rattle.tree_check.specs.Checks.{Checked, ChecksTo}
-use Rattle.run_model.specs.Words.{Options, words_of}
+use Rattle.csv_model.specs.promise.Reading.{records_of}
+use Rattle.tree_check.specs.promise.Checks.{Checked, ChecksTo}
+use Rattle.run_model.specs.promise.Words.{Options, words_of}
 use Rattle.run_model.specs.declared.words.WordsFault.{WordsFault}
-use Rattle.run_model.specs.Answer.{Answer, EntriesAsk, Fault, OptionsAsk, Request, StagesAsk, Table, Task, TaskIs, Tree, asked_by, meant_by}
-use Rattle.run_model.specs.Answer.{request_with, stages_from, table_of}
+use Rattle.run_model.specs.promise.Answer.{Answer, EntriesAsk, Fault, OptionsAsk, Request, StagesAsk, Table, Task, TaskIs, Tree, asked_by, meant_by}
+use Rattle.run_model.specs.promise.Answer.{request_with, stages_from, table_of}
 use Rattle.run_model.specs.declared.fault.RunFault.{RunFault}
 use Rattle.run_model.specs.declared.fault.RunFault.TheVariants as run
-use Rattle.run_model.specs.RunAnswer.{AnswersWithin, IsAnswer, IsAnswerTo, answer_of_check, answer_of_records, is_too_long}
+use Rattle.run_model.specs.promise.RunAnswer.{AnswersWithin, IsAnswer, IsAnswerTo, answer_of_check, answer_of_records, is_too_long}
 
 module _ (some : (text : List ℕ) → (read : Result (List TypeEntry) TypesFault) × Reads text read)
     (alone : (text : List ℕ) (first second : Result (List TypeEntry) TypesFault) → Reads text first → Reads text second → first ≡ second) where

@@ -1,10 +1,11 @@
 -- What is planned of stages.
 use Rattle.std.proofs.Common.{◌≡◌, ◌∙◌, ◌≤◌, ◌+◌, ℕ, List, [], ◌∷◌, Ok, length, get_or, ap, refl, subst, suc, arith}
 use Rattle.std.specs.List.{list_any}
-use Rattle.data_types.specs.Table.{Column}
+use Rattle.data_types.specs.promise.Table.{Column}
 use Rattle.stage_chain.specs.Plans.{links_of}
 use Rattle.stage_chain.proofs.Planning.{after-same, end-plain, taken-stages}
-use Rattle.stage_model.specs.Typing.{Stage, columns_after, is_struct, plan_from, plan_steps, stage_over}
+use Rattle.stage_model.specs.promise.Typing.{Stage, columns_after, is_struct, plan_from, stage_over}
+use Rattle.stage_model.specs.Typing.{plan_steps}
 use Rattle.stage_model.specs.declared.stage.StageText.{StageText}
 use Rattle.stage_plan.specs.PlanWords.{IsPlan}
 use Rattle.stage_plan.specs.declared.typing.Plan.{Plan}

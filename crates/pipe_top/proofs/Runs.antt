@@ -5,24 +5,27 @@ use Rattle.std.proofs.Common.{append-nil, inl, inr}
 use Rattle.std.proofs.lemmas.Bool.{false≢true}
 use Rattle.edge_io.specs.declared.edge.WriteFault.{WriteFault}
 use Rattle.unit_pass.specs.declared.pass.Audit.{Audit}
-use Rattle.stream_face.specs.Shown.{Seen}
-use Rattle.run_model.specs.Answer.{Answer, Asks, Task, Text, Tree, Fault, cause_of, Cause, OfWords, OfTexts, OfPlan, OfRecords}
-use Rattle.run_model.specs.Answer.{OfTree, OfLength, Reading, Writing, Memory}
-use Rattle.run_model.specs.MemoryFaults.{has_memory_inside}
-use Rattle.run_model.specs.Outcomes.{AtWriteFault, AtWriting, asked_of, fault_in, is_decided, is_early, is_write_fault, task_of}
+use Rattle.stream_face.specs.promise.Shown.{Seen}
+use Rattle.run_model.specs.promise.Answer.{Answer, Asks, Task, Text, Tree, Fault, cause_of, Cause, OfWords, OfTexts, OfPlan, OfRecords}
+use Rattle.run_model.specs.promise.Answer.{OfTree, OfLength, Reading, Writing, Memory}
+use Rattle.run_model.specs.promise.MemoryFaults.{has_memory_inside}
+use Rattle.run_model.specs.promise.Outcomes.{AtWriteFault, AtWriting, is_decided, is_early, is_write_fault}
+use Rattle.run_model.specs.Outcomes.{asked_of, fault_in, task_of}
 use Rattle.run_model.specs.declared.asked.Task.{Task as AsksTask}
-use Rattle.run_model.specs.Diagnostics.{Says, Told, Took, audit_if, fault_line}
+use Rattle.run_model.specs.promise.Diagnostics.{Told, Took, audit_if, fault_line}
+use Rattle.run_model.specs.Diagnostics.{Says}
 use Rattle.run_model.specs.declared.fault.RunFault.{RunFault}
 use Rattle.run_model.specs.declared.fault.RunFault.TheVariants as run
-use Rattle.pipe_top.specs.Over.{CarriedOver, RanOver, is_behind_records}
-use Rattle.pipe_top.specs.Traffic.{CountsTask, IsShown, IsShownInPart, IsTraffic, ShowsAsked, ShowsTask}
-use Rattle.run_model.specs.Words.{made_of}
+use Rattle.pipe_top.specs.promise.Over.{RanOver, is_behind_records}
+use Rattle.pipe_top.specs.Over.{CarriedOver}
+use Rattle.pipe_top.specs.promise.Traffic.{CountsTask, IsShown, IsShownInPart, IsTraffic, ShowsAsked, ShowsTask}
+use Rattle.run_model.specs.promise.Words.{made_of}
 use Rattle.pipe_top.proofs.Carried.{over-fault}
 use Rattle.pipe_top.proofs.Unshown.{unshown}
 use Rattle.pipe_top.proofs.Written.{some-bytes}
-use Rattle.run_model.specs.RunAnswer.{AreBytes, AreInput, IsAnswer, IsAnswerTo, input_by}
-use Rattle.run_model.specs.RunOutcomes.{GotFirst, GotText, IsRead}
-use Rattle.pipe_top.specs.Ran.{ReadFor}
+use Rattle.run_model.specs.promise.RunAnswer.{AreBytes, AreInput, IsAnswer, IsAnswerTo, input_by}
+use Rattle.run_model.specs.promise.RunOutcomes.{GotFirst, GotText, IsRead}
+use Rattle.pipe_top.specs.promise.Ran.{ReadFor}
 
 -- ---- diagnostics
 

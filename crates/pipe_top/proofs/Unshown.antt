@@ -1,10 +1,10 @@
 -- What is shown where nothing is.
 use Rattle.std.proofs.Common.{ℕ, ◌≡◌, List, Option, Result, Ok, Err, sym, subst}
 use Rattle.stage_chain.proofs.Chaining.{shows-nothing}
-use Rattle.stream_face.specs.Shown.{Seen}
-use Rattle.run_model.specs.Answer.{Table, Task, Tree}
+use Rattle.stream_face.specs.promise.Shown.{Seen}
+use Rattle.run_model.specs.promise.Answer.{Table, Task, Tree}
 use Rattle.run_model.specs.declared.fault.RunFault.{RunFault}
-use Rattle.pipe_top.specs.Traffic.{ShowsAsked}
+use Rattle.pipe_top.specs.promise.Traffic.{ShowsAsked}
 
 -- where nothing was shown, the first chunks of whatever links were
 pub unshown : (asked : Result Task RunFault) (bytes : List ℕ) (old new : Option (List Seen)) → new ≡ old → ShowsAsked asked bytes old new

@@ -2,16 +2,17 @@
 use Rattle.std.proofs.Common.{◌≡◌, ◌≤◌, ◌+◌, ◌∙◌, ℕ, false, List, [], Option, Some, None, Result, Ok, nat_lt, length, take, ap, refl, sym, subst, arith}
 use Rattle.std.proofs.lemmas.Bool.Decides.{nat_tests}
 use Rattle.std.proofs.lemmas.List.{length-append}
-use Rattle.edge_io.specs.Edge.{LosesCount}
+use Rattle.edge_io.specs.promise.Edge.{LosesCount}
 use Rattle.std.specs.Io.KnownBytes.{Appends}
-use Rattle.stage_chain.specs.Chains.{ShowsFirst}
-use Rattle.stream_face.specs.Shown.{Seen}
-use Rattle.csv_model.specs.Reading.{records_of}
-use Rattle.run_model.specs.Answer.{Answer, Request, Table, Task, Text}
+use Rattle.stage_chain.specs.promise.Chains.{ShowsFirst}
+use Rattle.stream_face.specs.promise.Shown.{Seen}
+use Rattle.csv_model.specs.promise.Reading.{records_of}
+use Rattle.run_model.specs.promise.Answer.{Answer, Request, Table, Task, Text}
 use Rattle.run_model.specs.declared.fault.RunFault.{RunFault}
-use Rattle.run_model.specs.RunAnswer.{AnswersBytes, AnswersTask, AnswersWithin, AreBytes, IsAnswerTo, IsTooLong, input_limit}
-use Rattle.run_model.specs.RunOutcomes.{GotFirst, GotText}
-use Rattle.pipe_top.specs.Traffic.{ShowsAsked, links_of, links_within}
+use Rattle.run_model.specs.promise.RunAnswer.{AnswersBytes, AnswersTask, AnswersWithin, AreBytes, IsAnswerTo, input_limit}
+use Rattle.run_model.specs.RunAnswer.{IsTooLong}
+use Rattle.run_model.specs.promise.RunOutcomes.{GotFirst, GotText}
+use Rattle.pipe_top.specs.promise.Traffic.{ShowsAsked, links_of, links_within}
 
 pub not-long : (n : ℕ) → n ≤ input_limit → nat_lt input_limit n ≡ false
 not-long n fits = grind (arith, nat_tests)

@@ -1,10 +1,10 @@
 -- What a step of any kind means.
 use Rattle.std.specs.Prelude.{ℕ, Bool, true, List, [], ◌∷◌, Option, Some, map}
 use Rattle.data_types.specs.ColumnView.{column_of}
-use Rattle.data_types.specs.Table.{Column, Row}
+use Rattle.data_types.specs.promise.Table.{Column, Row}
 use Rattle.data_types.specs.declared.kind.ColumnType.{ColumnType}
 use Rattle.data_types.specs.declared.row_fault.RowFault.{RowFault}
-use Rattle.raw_array.specs.Members.{ArrayTree}
+use Rattle.raw_array.specs.promise.Members.{ArrayTree}
 use Rattle.dict_stage.specs.Indices.{HasColumn}
 use Rattle.dict_stage.specs.Recoded.{RecodeFits, recode_step}
 use Rattle.stage_filter.specs.Filters.{FilterFits}
@@ -12,8 +12,8 @@ use Rattle.stage_kernels.specs.Packs.{PackFits}
 use Rattle.stage_kernels.specs.Picks.{PickFits}
 use Rattle.stage_kernels.specs.Slices.{SliceFits}
 use Rattle.stage_kernels.specs.Unpacks.{UnpackFits}
-use Rattle.stage_model.specs.Stages.{chunks_after}
-use Rattle.stage_model.specs.Traffic.{made_blocks, made_nodes}
+use Rattle.stage_model.specs.promise.Stages.{chunks_after}
+use Rattle.stage_model.specs.promise.Traffic.{made_blocks, made_nodes}
 use Rattle.stage_model.specs.declared.stage.Step.{Step}
 use Rattle.stage_model.specs.declared.stage.Step.TheVariants as steps
 use Rattle.total_stage.specs.Fits.{TotalsFits}

@@ -1,13 +1,13 @@
 -- What is between the header of a text and its rows.
 use Rattle.std.specs.Prelude.{◌≡◌, List, Ok}
-use Rattle.csv_model.specs.Batches.{batches_in}
-use Rattle.csv_model.specs.Header.{header_of}
-use Rattle.csv_model.specs.Reading.{Record, behind_header}
-use Rattle.stage_plan.specs.Entries.{entries_of}
+use Rattle.csv_model.specs.promise.Batches.{batches_in}
+use Rattle.csv_model.specs.promise.Header.{header_of}
+use Rattle.csv_model.specs.promise.Reading.{Record, behind_header}
+use Rattle.stage_plan.specs.promise.Entries.{entries_of}
 use Rattle.csv_source.specs.Sources.{stream_of}
 use Rattle.field_codec.specs.TextColumns.{AreProper}
-use Rattle.data_types.specs.Table.{Column}
-use Rattle.run_model.specs.Answer.{Request}
+use Rattle.data_types.specs.promise.Table.{Column}
+use Rattle.run_model.specs.promise.Answer.{Request}
 use Rattle.stage_plan.specs.PlanWords.{IsPlan}
 use Rattle.stage_plan.specs.declared.typing.Plan.{Plan}
 use Rattle.stream_face.specs.Streams.{Stream}

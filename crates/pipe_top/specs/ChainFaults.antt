@@ -1,7 +1,7 @@
 -- The fault of a run whose chain of stages gives no text.
 use Rattle.csv_write.specs.declared.fault.DriveFault.{DriveFault}
 use Rattle.csv_write.specs.declared.fault.DriveFault.TheVariants as chain
-use Rattle.run_model.specs.Answer.{fault_of_row}
+use Rattle.run_model.specs.promise.Answer.{fault_of_row}
 use Rattle.run_model.specs.declared.fault.RunFault.{RunFault}
 use Rattle.run_model.specs.declared.fault.RunFault.TheVariants as run
 

@@ -1,19 +1,19 @@
 //! The records of a text, read ahead of the stages in a thread beside them.
 ghost use Rattle.std.specs.Prelude.{◌≡◌, ◌⊎◌, ◌≤◌, ◌^◌, length, IfErr, IfOk, All, map, false};
 ghost use Rattle.csv_source.specs.AheadSources.{ahead_state};
-ghost use Rattle.csv_model.specs.Batches.{batches_in};
-ghost use Rattle.csv_model.specs.Header.{most_columns};
-ghost use Rattle.csv_model.specs.Reading.{records_of};
+ghost use Rattle.csv_model.specs.promise.Batches.{batches_in};
+ghost use Rattle.csv_model.specs.promise.Header.{most_columns};
+ghost use Rattle.csv_model.specs.promise.Reading.{records_of};
 ghost use Rattle.csv_source.specs.Sources.{stream_of};
 ghost use Rattle.field_codec.specs.TextColumns.{AreAllowed, AreProper, IsAllowed, NamesDiffer};
 ghost use Rattle.data_types.specs.ColumnView.{column_of};
 ghost use Rattle.data_types.specs.Kinds.{KindOk};
-ghost use Rattle.stage_plan.specs.PlanWords.{most_stages};
-ghost use Rattle.run_model.specs.Answer.{Fault};
+ghost use Rattle.stage_plan.specs.promise.PlanWords.{most_stages};
+ghost use Rattle.run_model.specs.promise.Answer.{Fault};
 ghost use Rattle.run_model.specs.Outcomes.{request_of};
-ghost use Rattle.run_model.specs.RunAnswer.{answer_of_records, input_limit};
+ghost use Rattle.run_model.specs.promise.RunAnswer.{answer_of_records, input_limit};
 ghost use Rattle.pipe_top.specs.Begun.{IsBegun};
-ghost use Rattle.pipe_top.specs.Over.{is_behind_records};
+ghost use Rattle.pipe_top.specs.promise.Over.{is_behind_records};
 
 use crate::answer::{header_columns, plan_stages, read_columns};
 use csv_read::{Records, TextBlocks};

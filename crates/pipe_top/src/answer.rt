@@ -1,25 +1,26 @@
 //! The text of a table, made of the bytes of an input.
 ghost use Rattle.std.specs.Prelude.{◌≡◌, ◌⊎◌, ◌≤◌, ◌*◌, ◌^◌, vec_len, length, ℕ, List, IfErr, IfOk, OnErr, OnOk, All, Ok, map, get_or, [], true, false};
-ghost use Rattle.csv_model.specs.Batches.{batches_in};
-ghost use Rattle.csv_model.specs.Header.{header_of, most_columns};
-ghost use Rattle.csv_model.specs.Reading.{behind_header, records_of};
-ghost use Rattle.stage_plan.specs.Entries.{entries_of};
+ghost use Rattle.csv_model.specs.promise.Batches.{batches_in};
+ghost use Rattle.csv_model.specs.promise.Header.{header_of, most_columns};
+ghost use Rattle.csv_model.specs.promise.Reading.{behind_header, records_of};
+ghost use Rattle.stage_plan.specs.promise.Entries.{entries_of};
 ghost use Rattle.csv_source.specs.Sources.{source_state, stream_of};
 ghost use Rattle.field_codec.specs.TextColumns.{AreAllowed, AreProper, IsAllowed, NamesDiffer};
 ghost use Rattle.data_types.specs.ColumnView.{column_of};
 ghost use Rattle.data_types.specs.Kinds.{KindOk};
-ghost use Rattle.stage_chain.specs.Chains.{ShowsFirst, ShowsLinks};
+ghost use Rattle.stage_chain.specs.promise.Chains.{ShowsFirst, ShowsLinks};
 ghost use Rattle.stage_chain.specs.Plans.{links_of as plan_links};
-ghost use Rattle.stage_model.specs.Typing.{plan_of};
-ghost use Rattle.stage_plan.specs.PlanWords.{IsPlan, columns_in, most_stages};
+ghost use Rattle.stage_model.specs.promise.Typing.{plan_of};
+ghost use Rattle.stage_plan.specs.promise.PlanWords.{most_stages};
+ghost use Rattle.stage_plan.specs.PlanWords.{IsPlan, columns_in};
 ghost use Rattle.unit_pass.specs.declared.pass.TheConstants.{ROOM, SUPPLY};
-ghost use Rattle.run_model.specs.Answer.{Fault, Request as ARequest, Text};
+ghost use Rattle.run_model.specs.promise.Answer.{Fault, Request as ARequest, Text};
 ghost use Rattle.run_model.specs.Outcomes.{request_of};
-ghost use Rattle.run_model.specs.RunAnswer.{answer_of_plan, answer_of_records, input_limit};
+ghost use Rattle.run_model.specs.promise.RunAnswer.{answer_of_plan, answer_of_records, input_limit};
 ghost use Rattle.pipe_top.specs.ChainFaults.{fault_of_chain};
 ghost use Rattle.pipe_top.specs.Begun.{IsBegun};
-ghost use Rattle.pipe_top.specs.Over.{is_behind_records};
-ghost use Rattle.pipe_top.specs.Traffic.{LinksTraffic, links_of};
+ghost use Rattle.pipe_top.specs.promise.Over.{is_behind_records};
+ghost use Rattle.pipe_top.specs.promise.Traffic.{LinksTraffic, links_of};
 
 use crate::ahead::begin_ahead;
 use csv_read::{Records, TextBlocks, read_header};

@@ -1,9 +1,9 @@
 //! A run as the end of a process.
 ghost use Rattle.std.specs.Prelude.{◌≡◌, None};
 ghost use Rattle.std.specs.Process.{exit_status};
-ghost use Rattle.run_model.specs.Words.{texts_of};
+ghost use Rattle.run_model.specs.promise.Words.{texts_of};
 ghost use Rattle.run_model.specs.declared.outcome.Outcome.{Outcome as AnOutcome};
-ghost use Rattle.pipe_top.specs.Ran.{Ran};
+ghost use Rattle.pipe_top.specs.promise.Ran.{Ran};
 
 use crate::top::run;
 use edge_io::{OpenGate, Sink, Source};

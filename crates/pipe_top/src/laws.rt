@@ -1,10 +1,11 @@
 //! What holds of the answers of runs. The calls do nothing.
 ghost use Rattle.std.specs.Prelude.{◌≡◌, ℕ, List, Option, true, false};
-ghost use Rattle.run_model.specs.Answer.{Answer, Fault};
-ghost use Rattle.run_model.specs.MemoryFaults.{has_memory_inside};
-ghost use Rattle.run_model.specs.Outcomes.{is_decided};
+ghost use Rattle.run_model.specs.promise.Answer.{Answer, Fault};
+ghost use Rattle.run_model.specs.promise.MemoryFaults.{has_memory_inside};
+ghost use Rattle.run_model.specs.promise.Outcomes.{is_decided};
 ghost use Rattle.run_model.specs.declared.fault.RunFault.{RunFault as AFault};
-ghost use Rattle.run_model.specs.RunAnswer.{AreInput, IsAnswer, IsInput};
+ghost use Rattle.run_model.specs.promise.RunAnswer.{AreInput, IsAnswer};
+ghost use Rattle.run_model.specs.RunAnswer.{IsInput};
 
 /// A law: whatever the words and the bytes of the input are, there is an answer, and one alone.
 pub fn one_answer()

@@ -7,12 +7,12 @@
 //! stream in place, and writes the text of the table. A tree is read and checked as a foreign producer's would be, and the
 //! text is a report on it; the tap sees nothing of it.
 //!
-//! What the contracts say: on success the sink got exactly the text that the definitions give (`specs/RunAnswer.antt` of
+//! What the contracts say: on success the sink got exactly the text that the definitions give (`specs/promise/RunAnswer.antt` of
 //! `run_model`), which know nothing of chunks; each refusal has its cause; and each structure and each hold that was made
 //! is given up again on every path. Each fault has a line of its own, which goes to a sink of diagnostics, and so does the
 //! audit's where the words ask for it. No line takes memory, and a failed write there changes nothing else.
 //!
-//! `specs/Traffic.antt` says what a run shows and counts. The law [`one_answer`] says that all words and bytes have exactly
+//! `specs/promise/Traffic.antt` says what a run shows and counts. The law [`one_answer`] says that all words and bytes have exactly
 //! one answer. [`run_task`] does what the words ask for, by steps of any type; [`AnyStep`] is a step of any kind; [`drive`]
 //! is the chain of stages over a stream by these steps; [`run_to_exit`] answers the exit status of a process.
 //!

@@ -1,6 +1,6 @@
 //! The top call.
-ghost use Rattle.run_model.specs.Words.{texts_of};
-ghost use Rattle.pipe_top.specs.Ran.{Ran};
+ghost use Rattle.run_model.specs.promise.Words.{texts_of};
+ghost use Rattle.pipe_top.specs.promise.Ran.{Ran};
 
 use crate::any_step::AnyStep;
 use crate::{memory_stands_alone, one_answer, run_task};
@@ -48,7 +48,7 @@ pub fn run<R: Threads + Sync, S: Source, K: Sink, E: Sink, T: Tap>(
     gate: &(dyn Gate + Sync),
 ) -> Outcome
     // The answer, how far the source was read, what the sink, the tap and the sink of diagnostics got, the cause of each fault, and that
-    // nothing is left: the members of `Ran` (`specs/Ran.antt`), each of which says one of these.
+    // nothing is left: the members of `Ran` (`specs/promise/Ran.antt`), each of which says one of these.
     ensures ran { Ran (texts_of words.now)
         (record {
           left = S.left source.old;

@@ -1,8 +1,9 @@
 //! Answers to texts that are written out.
 ghost use Rattle.std.specs.Prelude.{◌≡◌, ◌∷◌, ◌++◌, [], codes};
-ghost use Rattle.run_model.specs.Answer.{Fault, Table, Text, asking};
+ghost use Rattle.run_model.specs.promise.Answer.{Fault, Table, Text};
+ghost use Rattle.run_model.specs.Answer.{asking};
 ghost use Rattle.run_model.specs.declared.fault.RunFault.TheVariants as run;
-ghost use Rattle.run_model.specs.RunAnswer.{AnswersBytes};
+ghost use Rattle.run_model.specs.promise.RunAnswer.{AnswersBytes};
 
 /// The answers to texts that are written out here.
 pub fn worked_answers()

@@ -1,11 +1,14 @@
 -- Trees that are equal but for amounts: their order, and how far shares lower them.
 use Rattle.std.proofs.Common.{◌≡◌, ◌∙◌, ℕ, ◌+◌, ◌-◌, ◌≤◌, List, [], ◌∷◌, map, length, Option, None, Some, refl, ap, arith}
-use Rattle.tree_model.specs.Tree.{Released, Live, Trees, no_trees, more_trees, MaybeTree, absent, present, Depth, map_trees, map_maybe, AllAlike, MaybeAlike}
+use Rattle.tree_model.specs.promise.TreeData.{Released, Live, Trees, no_trees, more_trees, MaybeTree, absent, present}
+use Rattle.tree_model.specs.Tree.{Depth, map_trees, map_maybe, AllAlike, MaybeAlike}
 use Rattle.tree_model.proofs.Likeness.{Alike-refl, Alike-map, Alike-trans, Alike-weaker, Alike-Cost, Alike-Depth, map_tree-same, map_tree-both}
 use Rattle.raw_array.proofs.Shares.{OneLower-lowered}
-use Rattle.raw_array.specs.Members.{Buffer, ArrayMembers, ArrayTree, lowered_buffer, lowered_members, Lowered, buffer_lowered_by, members_lowered_by, LoweredBy}
+use Rattle.raw_array.specs.promise.Members.{Buffer, ArrayMembers, ArrayTree}
+use Rattle.raw_array.specs.Members.{lowered_buffer, lowered_members, Lowered, buffer_lowered_by, members_lowered_by, LoweredBy}
 use Rattle.raw_array.specs.Members.{LikeBuffer, LikeBuffers, LikeMembers, Like, OneLowerBuffers, OneLowerMembers, OneLower, AllOneLower, MaybeOneLower}
-use Rattle.raw_array.specs.Members.{holds_of, holds, Cost, least_of, LeastAmount, least_of_all, least_of_maybe}
+use Rattle.raw_array.specs.promise.Members.{holds_of, holds, Cost}
+use Rattle.raw_array.specs.Members.{least_of, LeastAmount, least_of_all, least_of_maybe}
 
 -- ---- Like is reflexive and transitive
 

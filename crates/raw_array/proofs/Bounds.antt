@@ -1,8 +1,10 @@
 -- A share, its source after it, and a window keep the bounds that every structure has.
 use Rattle.std.proofs.Common.{◌≡◌, length, refl, arith}
 use Rattle.std.proofs.lemmas.List.{length-map}
-use Rattle.tree_model.specs.Tree.{Released, Live, Trees, no_trees, more_trees, tree_list, map_trees, AllAlike}
-use Rattle.raw_array.specs.Members.{ArrayMembers, ArrayTree, Bounded, shared_buffer, shared_members, ShareOf, Lowered, LikeMembers, Like, OneLower}
+use Rattle.tree_model.specs.promise.TreeData.{Released, Live, Trees, no_trees, more_trees, tree_list}
+use Rattle.tree_model.specs.Tree.{map_trees, AllAlike}
+use Rattle.raw_array.specs.promise.Members.{ArrayMembers, ArrayTree}
+use Rattle.raw_array.specs.Members.{Bounded, shared_buffer, shared_members, ShareOf, Lowered, LikeMembers, Like, OneLower}
 use Rattle.raw_array.proofs.Amounts.{Depth-like, Like-lowered, Like-one_lower, same_number}
 use Rattle.raw_array.proofs.Shares.{Depth-shared}
 

@@ -1,6 +1,7 @@
 -- A share, its source after it, and a window cost what the source did.
 use Rattle.std.proofs.Common.{◌≡◌}
-use Rattle.raw_array.specs.Members.{ArrayTree, Lowered, OneLower, Cost}
+use Rattle.raw_array.specs.promise.Members.{ArrayTree, Cost}
+use Rattle.raw_array.specs.Members.{Lowered, OneLower}
 use Rattle.raw_array.proofs.Amounts.{Cost-like, Like-lowered, Like-one_lower}
 use Rattle.raw_array.proofs.Shares.{Cost-shared}
 

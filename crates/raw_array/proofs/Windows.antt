@@ -4,8 +4,10 @@ use Rattle.std.specs.Prelude.{pos, ◌&&◌, if◌then◌else◌}
 use Rattle.std.specs.Ordering.{int_eq}
 use Rattle.std.specs.Bool.{Decides}
 use Rattle.std.proofs.lemmas.Bool.Decides.{Decides-int_eq}
-use Rattle.tree_model.specs.Tree.{Released, Live, Depth}
-use Rattle.raw_array.specs.Members.{ArrayTree, members_of, windowed, Cost}
+use Rattle.tree_model.specs.promise.TreeData.{Released, Live}
+use Rattle.tree_model.specs.Tree.{Depth}
+use Rattle.raw_array.specs.promise.Members.{ArrayTree, members_of, Cost}
+use Rattle.raw_array.specs.Members.{windowed}
 use Rattle.raw_array.specs.Windows.{Window, is_whole}
 
 all_of : (a b : Bool) (t w : ArrayTree) (P Q : Type 0) → Decides a P → Decides b Q → P → Q → t ≡ (if a && b then t else w)

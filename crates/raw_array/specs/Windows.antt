@@ -1,8 +1,9 @@
 -- A window on an array ("The Arrow C Data Interface", "The ArrowArray structure": length, null_count, offset).
 use Rattle.std.specs.Prelude.{ℤ, pos, ◌^◌, ◌-◌, ◌+ℤ◌, ◌≤ℤ◌, Bool, ◌&&◌, if◌then◌else◌}
 use Rattle.std.specs.Ordering.{int_eq}
-use Rattle.tree_model.specs.Tree.{IsLive}
-use Rattle.raw_array.specs.Members.{ArrayTree, members_of, windowed}
+use Rattle.tree_model.specs.promise.TreeParts.{IsLive}
+use Rattle.raw_array.specs.promise.Members.{ArrayTree, members_of}
+use Rattle.raw_array.specs.Members.{windowed}
 
 -- the window from 0 on, of the array's own length
 abbrev pub is_whole : ArrayTree → ℤ → ℤ → Bool

@@ -1,7 +1,8 @@
 //! The members of a live structure, lent.
 ghost use Rattle.std.specs.Prelude.{◌≡◌, ◌-◌, ◌^◌, ◌<◌, pos, length, None, Some, IfSome, IsTrue, IsUtf8, MatchOption, get_or};
-ghost use Rattle.tree_model.specs.Tree.{IsLive, children_of, dictionary_of, child_at};
-ghost use Rattle.raw_array.specs.Members.{members_of, bytes_in, kind_of};
+ghost use Rattle.tree_model.specs.promise.TreeParts.{IsLive, children_of, dictionary_of, child_at};
+ghost use Rattle.raw_array.specs.promise.Members.{members_of, bytes_in};
+ghost use Rattle.raw_array.specs.Members.{kind_of};
 
 use crate::array::{RawArray, ReleaseKind, State};
 use crate::views::is_text;

@@ -3,7 +3,7 @@ ghost use Rattle.std.specs.Prelude.{◌≡◌, ◌+◌, ◌-◌, ◌^◌, ◌<�
 ghost use Rattle.tree_model.specs.Tree.{Depth};
 ghost use Rattle.raw_place.specs.Kept.{value_of, value_if, values_of};
 ghost use Rattle.raw_array.specs.Parts.{tree_of_parts};
-ghost use Rattle.unit_pass.specs.Tally.{risen};
+ghost use Rattle.unit_pass.specs.promise.Tally.{risen};
 
 use crate::array::{ArrayParts, Node, RawArray, State};
 use crate::private_data::{Private, placed_private, taken_private};

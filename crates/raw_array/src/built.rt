@@ -1,8 +1,8 @@
 //! Structures that are made of their parts, or of which nothing is left.
 ghost use Rattle.std.specs.Prelude.{◌≡◌, ◌+◌, ◌-◌, ◌^◌, ◌<◌, ◌≤◌, length, if◌then◌else◌, is_ok, IfOk, OnOk};
-ghost use Rattle.unit_pass.specs.Tally.{risen};
+ghost use Rattle.unit_pass.specs.promise.Tally.{risen};
 ghost use Rattle.tree_model.specs.Tree.{Depth};
-ghost use Rattle.raw_array.specs.Members.{Cost};
+ghost use Rattle.raw_array.specs.promise.Members.{Cost};
 ghost use Rattle.raw_array.specs.Parts.{tree_of_parts};
 
 use crate::array::{ArrayParts, RawArray};

@@ -2,7 +2,8 @@
 //! holds of all trees.
 ghost use Rattle.std.specs.Prelude.{◌≡◌, ◌+◌, ◌≤◌, ℕ, ℤ};
 ghost use Rattle.tree_model.specs.Tree.{Depth};
-ghost use Rattle.raw_array.specs.Members.{ArrayTree, Cost, LeastAmount, Like, OneLower, Lowered, LoweredBy};
+ghost use Rattle.raw_array.specs.promise.Members.{ArrayTree, Cost};
+ghost use Rattle.raw_array.specs.Members.{LeastAmount, Like, OneLower, Lowered, LoweredBy};
 ghost use Rattle.raw_array.specs.Windows.{Window};
 
 /// A law: trees whose amounts are nowhere above their fellows are ordered, cost the same and are as deep. What a share

@@ -1,8 +1,10 @@
 //! How deep a tree is, how many units it holds, and how much of a hold may still be shared.
 ghost use Rattle.std.specs.Prelude.{◌≡◌, ◌-◌, ◌^◌, ◌≤◌, min};
-ghost use Rattle.tree_model.specs.Tree.{Depth, trees, depth_of_all};
+ghost use Rattle.tree_model.specs.promise.TreeData.{trees};
+ghost use Rattle.tree_model.specs.Tree.{Depth, depth_of_all};
 ghost use Rattle.raw_place.specs.Kept.{values_of};
-ghost use Rattle.raw_array.specs.Members.{Cost, cost_of_all, LeastAmount, least_of_all, whole};
+ghost use Rattle.raw_array.specs.promise.Members.{Cost, whole};
+ghost use Rattle.raw_array.specs.Members.{cost_of_all, LeastAmount, least_of_all};
 
 use crate::array::{RawArray, State};
 use crate::views::{count_holds, least_in};

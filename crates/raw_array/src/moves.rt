@@ -1,7 +1,9 @@
 //! Parts that move into a structure and out of it.
 ghost use Rattle.std.specs.Prelude.{◌≡◌, ◌+◌, ◌<◌, ◌≤◌, length, IfOk, OnOk, OnErr};
-ghost use Rattle.tree_model.specs.Tree.{Released, IsLive, Depth, children_of, child_at, dictionary_at, with_child, without_dictionary};
-ghost use Rattle.raw_array.specs.Members.{Cost};
+ghost use Rattle.tree_model.specs.promise.TreeData.{Released};
+ghost use Rattle.tree_model.specs.promise.TreeParts.{IsLive, children_of, child_at};
+ghost use Rattle.tree_model.specs.Tree.{Depth, dictionary_at, with_child, without_dictionary};
+ghost use Rattle.raw_array.specs.promise.Members.{Cost};
 
 use crate::array::{Gone, RawArray, State};
 

@@ -2,7 +2,7 @@
 //! unit.
 ghost use Rattle.std.specs.Prelude.{◌≡◌, ◌+◌, ◌<◌, ◌≤◌, if◌then◌else◌, is_ok, IfOk, IfErr};
 ghost use Rattle.raw_place.specs.Kept.{value_of};
-ghost use Rattle.raw_array.specs.Members.{holds_of};
+ghost use Rattle.raw_array.specs.promise.Members.{holds_of};
 ghost use Rattle.raw_array.specs.View.{buffers_of};
 
 use buf_block::{BufView, let_go_all};

@@ -1,8 +1,10 @@
 //! The release of a structure and of all that it still owns.
 ghost use Rattle.std.specs.Prelude.{◌≡◌, ◌+◌, ◌≤◌, ◌↔◌};
-ghost use Rattle.tree_model.specs.Tree.{Released, IsLive, trees};
+ghost use Rattle.tree_model.specs.promise.TreeData.{Released, trees};
+ghost use Rattle.tree_model.specs.promise.TreeParts.{IsLive};
 ghost use Rattle.raw_place.specs.Kept.{values_of};
-ghost use Rattle.raw_array.specs.Members.{Cost, cost_of_all};
+ghost use Rattle.raw_array.specs.promise.Members.{Cost};
+ghost use Rattle.raw_array.specs.Members.{cost_of_all};
 
 use crate::array::{Acted, Node, RawArray, State};
 use crate::private_data::end_private;

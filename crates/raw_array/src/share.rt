@@ -1,8 +1,11 @@
 //! A second tree over the same blocks.
 ghost use Rattle.std.specs.Prelude.{◌≡◌, ◌+◌, ◌<◌, ◌≤◌, length, map, get_or, slice_set, if◌then◌else◌, is_ok, IfOk, OnOk, OnErr};
-ghost use Rattle.tree_model.specs.Tree.{Released, IsLive, trees, maybe_tree, map_trees, map_maybe};
+ghost use Rattle.tree_model.specs.promise.TreeData.{Released, trees, maybe_tree};
+ghost use Rattle.tree_model.specs.promise.TreeParts.{IsLive};
+ghost use Rattle.tree_model.specs.Tree.{map_trees, map_maybe};
 ghost use Rattle.raw_place.specs.Kept.{value_of, value_if, values_of};
-ghost use Rattle.raw_array.specs.Members.{Cost, cost_of_all, cost_of_maybe, holds_of, LeastAmount, least_of, least_of_all, least_of_maybe, shared_buffer};
+ghost use Rattle.raw_array.specs.promise.Members.{Cost, holds_of};
+ghost use Rattle.raw_array.specs.Members.{cost_of_all, cost_of_maybe, LeastAmount, least_of, least_of_all, least_of_maybe, shared_buffer};
 ghost use Rattle.raw_array.specs.Members.{lowered_buffer, shared_members, lowered_members, ShareOf, Lowered, Like, OneLowerBuffers, OneLower, AllOneLower};
 ghost use Rattle.raw_array.specs.Members.{MaybeOneLower};
 ghost use Rattle.raw_array.specs.View.{buffers_of, tree_of_node};

@@ -1,6 +1,7 @@
 //! The views of a node's buffers, one after another: counted, let go, and shared.
 ghost use Rattle.std.specs.Prelude.{◌≡◌, ◌+◌, ◌≤◌, [], ◌∷◌, map, if◌then◌else◌, is_ok, IfOk, IfSome, IsTrue, IsUtf8, OnOk, OnErr};
-ghost use Rattle.raw_array.specs.Members.{bytes_in, holds_of, least_of, whole, shared_buffer, lowered_buffer, OneLowerBuffers};
+ghost use Rattle.raw_array.specs.promise.Members.{bytes_in, holds_of, whole};
+ghost use Rattle.raw_array.specs.Members.{least_of, shared_buffer, lowered_buffer, OneLowerBuffers};
 ghost use Rattle.raw_array.specs.View.{buffer_if, buffers_of};
 
 use buf_block::{AMOUNT, BufView, let_go_all};

@@ -1,7 +1,7 @@
 //! The members of a live structure, lent.
 ghost use Rattle.std.specs.Prelude.{◌≡◌, ◌-◌, ◌^◌, ◌<◌, pos, length, None, Some, MatchOption};
-ghost use Rattle.tree_model.specs.Tree.{IsLive, children_of, dictionary_of, child_at};
-ghost use Rattle.raw_schema.specs.Members.{members_of};
+ghost use Rattle.tree_model.specs.promise.TreeParts.{IsLive, children_of, dictionary_of, child_at};
+ghost use Rattle.raw_schema.specs.promise.Members.{members_of};
 
 use crate::schema::{RawSchema, State};
 

@@ -4,7 +4,7 @@ ghost use Rattle.tree_model.specs.Tree.{Depth};
 ghost use Rattle.raw_place.specs.Kept.{value_if, values_of};
 ghost use Rattle.raw_schema.specs.Parts.{tree_of_parts};
 ghost use Rattle.raw_schema.specs.View.{bytes_of};
-ghost use Rattle.unit_pass.specs.Tally.{risen};
+ghost use Rattle.unit_pass.specs.promise.Tally.{risen};
 
 use crate::private_data::{Private, give_back_placed, placed_unit};
 use crate::schema::{Node, RawSchema, SchemaParts, State};

@@ -1,8 +1,10 @@
 //! How deep a tree is, and how many units it holds.
 ghost use Rattle.std.specs.Prelude.{◌≡◌, ◌-◌, ◌^◌, ◌≤◌, min};
-ghost use Rattle.tree_model.specs.Tree.{Depth, trees, depth_of_all};
+ghost use Rattle.tree_model.specs.promise.TreeData.{trees};
+ghost use Rattle.tree_model.specs.Tree.{Depth, depth_of_all};
 ghost use Rattle.raw_place.specs.Kept.{values_of};
-ghost use Rattle.raw_schema.specs.Members.{Nodes, nodes_of_all};
+ghost use Rattle.tree_model.specs.promise.TreeCost.{Nodes};
+ghost use Rattle.raw_schema.specs.Members.{nodes_of_all};
 
 use crate::schema::{RawSchema, State};
 use raw_place::Kids;

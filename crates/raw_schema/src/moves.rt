@@ -1,7 +1,10 @@
 //! Parts that move into a structure and out of it.
 ghost use Rattle.std.specs.Prelude.{◌≡◌, ◌+◌, ◌<◌, ◌≤◌, length, IfOk, OnOk, OnErr};
-ghost use Rattle.tree_model.specs.Tree.{Released, IsLive, Depth, children_of, child_at, dictionary_at, with_child, without_dictionary};
-ghost use Rattle.raw_schema.specs.Members.{Nodes, with_name};
+ghost use Rattle.tree_model.specs.promise.TreeData.{Released};
+ghost use Rattle.tree_model.specs.promise.TreeParts.{IsLive, children_of, child_at};
+ghost use Rattle.tree_model.specs.Tree.{Depth, dictionary_at, with_child, without_dictionary};
+ghost use Rattle.tree_model.specs.promise.TreeCost.{Nodes};
+ghost use Rattle.raw_schema.specs.Members.{with_name};
 ghost use Rattle.raw_schema.specs.View.{tree_of_node};
 
 use crate::schema::{Gone, Node, RawSchema, State};

@@ -1,8 +1,10 @@
 //! The release of a structure and of all that it still owns.
 ghost use Rattle.std.specs.Prelude.{◌≡◌, ◌+◌, ◌≤◌, ◌↔◌};
-ghost use Rattle.tree_model.specs.Tree.{Released, IsLive, trees};
+ghost use Rattle.tree_model.specs.promise.TreeData.{Released, trees};
+ghost use Rattle.tree_model.specs.promise.TreeParts.{IsLive};
 ghost use Rattle.raw_place.specs.Kept.{values_of};
-ghost use Rattle.raw_schema.specs.Members.{Nodes, nodes_of_all};
+ghost use Rattle.tree_model.specs.promise.TreeCost.{Nodes};
+ghost use Rattle.raw_schema.specs.Members.{nodes_of_all};
 
 use crate::private_data::give_back_placed;
 use crate::schema::{Acted, Node, RawSchema, State};

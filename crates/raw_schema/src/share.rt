@@ -1,8 +1,10 @@
 //! A second tree with the same members.
 ghost use Rattle.std.specs.Prelude.{◌≡◌, ◌+◌, ◌≤◌, if◌then◌else◌, is_ok, IfOk};
-ghost use Rattle.tree_model.specs.Tree.{IsLive, trees, maybe_tree};
+ghost use Rattle.tree_model.specs.promise.TreeParts.{IsLive};
+ghost use Rattle.tree_model.specs.promise.TreeData.{trees, maybe_tree};
 ghost use Rattle.raw_place.specs.Kept.{value_if, values_of};
-ghost use Rattle.raw_schema.specs.Members.{Nodes, nodes_of_all, nodes_of_maybe};
+ghost use Rattle.tree_model.specs.promise.TreeCost.{Nodes};
+ghost use Rattle.raw_schema.specs.Members.{nodes_of_all, nodes_of_maybe};
 ghost use Rattle.raw_schema.specs.View.{bytes_of, tree_of_node};
 
 use crate::private_data::{give_back_placed, placed_unit};

@@ -1,8 +1,8 @@
 -- How large a value is, and the lists of values that are made one by one.
 use Rattle.std.proofs.Common.{◌≡◌, ◌∙◌, ◌+◌, ◌<◌, ◌++◌, ℕ, zero, suc, List, [], ◌∷◌, length, get_or, map, refl, ap, arith}
 use mathlib.Core.Former.{Count}
-use Rattle.data_types.specs.Value.{Value, Values, values, Null, Truth, Whole, Bits, Bytes, Items, Fields, no_values, more_values}
-use Rattle.layout_rules.specs.Values.{each}
+use Rattle.data_types.specs.promise.Value.{Value, Values, values, Null, Truth, Whole, Bits, Bytes, Items, Fields, no_values, more_values}
+use Rattle.layout_rules.specs.promise.Values.{each}
 use Rattle.record_tap.specs.declared.value.OwnedValue.{Row_of-OwnedValue, end_of-OwnedValue, more_of-OwnedValue, items-the_row-OwnedValue}
 use Rattle.record_tap.specs.OwnedValues.{value_of, values_in}
 

@@ -2,11 +2,13 @@
 use Rattle.std.proofs.Common.{◌≡◌, ◌∙◌, ◌+◌, ◌<◌, ◌++◌, ℕ, List, [], ◌∷◌, length, get_or, take, None, Some}
 use Rattle.std.proofs.Common.{refl, ap, sym, arith, append-nil, append_assoc}
 use Rattle.std.proofs.lemmas.List.{take_more}
-use Rattle.tree_model.specs.Tree.{Released, Live, IsLive, trees, tree_list, absent, present, children_of, dictionary_of, child_at, Depth, depth_of_all}
+use Rattle.tree_model.specs.promise.TreeData.{Released, Live, trees, tree_list, absent, present}
+use Rattle.tree_model.specs.promise.TreeParts.{IsLive, children_of, dictionary_of, child_at}
+use Rattle.tree_model.specs.Tree.{Depth, depth_of_all}
 use Rattle.tree_model.proofs.Lists.{trees-tree_list}
 use Rattle.tree_model.proofs.Measures.{Depth-get_or}
-use Rattle.raw_schema.specs.Members.{SchemaTree, members_of}
-use Rattle.stream_face.specs.Shown.{names_of, names_of_all}
+use Rattle.raw_schema.specs.promise.Members.{SchemaTree, members_of}
+use Rattle.stream_face.specs.promise.Shown.{names_of, names_of_all}
 
 -- without a dictionary
 pub names-alone : (t : SchemaTree) → IsLive t → dictionary_of t ≡ None → names_of t ≡ (members_of t).name ∷ names_of_all (trees (children_of t))

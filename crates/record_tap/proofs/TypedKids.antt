@@ -1,8 +1,9 @@
 -- The kids of a node of kinds.
 use Rattle.std.proofs.Common.{ℕ, zero, suc, ◌<◌, ◌≤◌, List, [], ◌∷◌, length, get_or, map, arith}
-use Rattle.tree_model.specs.Tree.{Depth, depth_of_all, trees}
+use Rattle.tree_model.specs.promise.TreeData.{trees}
+use Rattle.tree_model.specs.Tree.{Depth, depth_of_all}
 use Rattle.data_types.specs.KindTrees.{AllNodesOk, NodesOk}
-use Rattle.data_types.specs.TypedView.{typed_of}
+use Rattle.data_types.specs.promise.TypedView.{typed_of}
 use Rattle.data_types.specs.declared.typed.Typed.{Typed}
 
 -- the types of each are proper where all are

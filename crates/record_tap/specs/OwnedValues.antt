@@ -1,8 +1,8 @@
 -- The values that the code keeps, as values.
 use Rattle.std.specs.Prelude.{map, Vec}
 use Rattle.std.specs.Global.{Global}
-use Rattle.data_types.specs.Table.{Row}
-use Rattle.data_types.specs.Value.{Value, Values, Null, Truth, Whole, Bits, Bytes, Items, Fields, no_values, more_values}
+use Rattle.data_types.specs.promise.Table.{Row}
+use Rattle.data_types.specs.promise.Value.{Value, Values, Null, Truth, Whole, Bits, Bytes, Items, Fields, no_values, more_values}
 use Rattle.record_tap.specs.declared.value.OwnedValue.{OwnedValue, Items', Fields', Row_of-OwnedValue, end_of-OwnedValue, more_of-OwnedValue}
 use Rattle.record_tap.specs.declared.value.OwnedValue.{Null as OwnNull, Truth as OwnTruth, Whole as OwnWhole, Bits as OwnBits, Bytes as OwnBytes}
 

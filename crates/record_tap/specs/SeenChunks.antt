@@ -1,7 +1,7 @@
 -- What a tap that keeps what it is shown has seen.
 use Rattle.std.specs.Prelude.{List, map}
-use Rattle.data_types.specs.TypedView.{typed_of}
-use Rattle.stream_face.specs.Shown.{Seen}
+use Rattle.data_types.specs.promise.TypedView.{typed_of}
+use Rattle.stream_face.specs.promise.Shown.{Seen}
 use Rattle.record_tap.specs.OwnedValues.{row_of}
 use Rattle.record_tap.specs.declared.tap.RecordTap.{RecordTap}
 use Rattle.record_tap.specs.declared.tap.SeenChunk.{SeenChunk}

@@ -1,8 +1,8 @@
 //! Copies of the kinds of a schema.
 ghost use Rattle.std.specs.Prelude.{◌≡◌, IfOk, map};
-ghost use Rattle.tree_model.specs.Tree.{trees};
+ghost use Rattle.tree_model.specs.promise.TreeData.{trees};
 ghost use Rattle.data_types.specs.KindTrees.{AllNodesOk, NodesOk};
-ghost use Rattle.data_types.specs.TypedView.{typed_of};
+ghost use Rattle.data_types.specs.promise.TypedView.{typed_of};
 
 use data_types::{Typed, clone_kind, kinds_of_typed};
 use std::alloc::Global;

@@ -1,8 +1,9 @@
 //! The names of a schema at all depths.
 ghost use Rattle.std.specs.Prelude.{◌≡◌, ◌++◌, IfOk, OnOk};
-ghost use Rattle.tree_model.specs.Tree.{IsLive, trees, children_of};
-ghost use Rattle.raw_schema.specs.Members.{members_of};
-ghost use Rattle.stream_face.specs.Shown.{names_of, names_of_all};
+ghost use Rattle.tree_model.specs.promise.TreeParts.{IsLive, children_of};
+ghost use Rattle.tree_model.specs.promise.TreeData.{trees};
+ghost use Rattle.raw_schema.specs.promise.Members.{members_of};
+ghost use Rattle.stream_face.specs.promise.Shown.{names_of, names_of_all};
 
 use raw_schema::RawSchema;
 use std::alloc::Global;

@@ -1,9 +1,9 @@
 //! The rows of a chunk, kept.
 ghost use Rattle.std.specs.Prelude.{◌≡◌, IfOk, map};
 ghost use Rattle.data_types.specs.KindTrees.{TypedOk};
-ghost use Rattle.data_types.specs.TypedView.{typed_of};
-ghost use Rattle.layout_rules.specs.Values.{each, row_items, rows_of};
-ghost use Rattle.layout_rules.specs.Walk.{ChunkOk};
+ghost use Rattle.data_types.specs.promise.TypedView.{typed_of};
+ghost use Rattle.layout_rules.specs.promise.Values.{each, row_items, rows_of};
+ghost use Rattle.layout_rules.specs.promise.Walk.{ChunkOk};
 ghost use Rattle.arr_import.specs.Cols.{window_of};
 ghost use Rattle.arr_import.specs.Window.{IsStruct};
 ghost use Rattle.record_tap.specs.OwnedValues.{row_of};

@@ -1,9 +1,9 @@
 //! A tap that keeps what it is shown.
 ghost use Rattle.std.specs.Prelude.{◌≡◌, [], IfOk, map};
-ghost use Rattle.schema_check.specs.Schemas.{TypedOf};
-ghost use Rattle.data_types.specs.TypedView.{typed_of};
-ghost use Rattle.layout_rules.specs.Walk.{ChunkOk};
-ghost use Rattle.stream_face.specs.Shown.{seen_of};
+ghost use Rattle.schema_check.specs.promise.Schemas.{TypedOf};
+ghost use Rattle.data_types.specs.promise.TypedView.{typed_of};
+ghost use Rattle.layout_rules.specs.promise.Walk.{ChunkOk};
+ghost use Rattle.stream_face.specs.promise.Shown.{seen_of};
 ghost use Rattle.record_tap.specs.SeenChunks.{seen_by, seen_in};
 
 use crate::kinds::kept_kinds;

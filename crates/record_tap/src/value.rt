@@ -1,9 +1,9 @@
 //! Values that are kept, each with its own memory.
 ghost use Rattle.std.specs.Prelude.{◌≡◌, ◌+◌, ◌<◌, ◌^◌, pos, map, IfOk};
-ghost use Rattle.data_types.specs.Value.{values};
-ghost use Rattle.data_types.specs.Value.Value.{Items, Fields};
-ghost use Rattle.layout_rules.specs.Layout.{natural};
-ghost use Rattle.layout_rules.specs.Values.{row_items};
+ghost use Rattle.data_types.specs.promise.Value.{values};
+ghost use Rattle.data_types.specs.promise.Value.Value.{Items, Fields};
+ghost use Rattle.layout_rules.specs.promise.Layout.{natural};
+ghost use Rattle.layout_rules.specs.promise.Values.{row_items};
 ghost use Rattle.arr_import.specs.Cols.{window_of};
 ghost use Rattle.arr_import.specs.Window.{IsStruct, item_at, items_of};
 ghost use Rattle.record_tap.specs.OwnedValues.{value_of};

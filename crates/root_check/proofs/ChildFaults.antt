@@ -3,17 +3,18 @@ use Rattle.std.proofs.Common.{◌≡◌, ℕ, suc, ◌+◌, ◌<◌, ◌≤◌, 
 use Rattle.std.specs.List.{AllZip}
 use Rattle.std.specs.Option.{option_or}
 use Rattle.std.proofs.lemmas.List.{drop_more, drop_all, length-map}
-use Rattle.tree_model.specs.Tree.{Released}
-use Rattle.raw_array.specs.Members.{ArrayTree}
+use Rattle.tree_model.specs.promise.TreeData.{Released}
+use Rattle.raw_array.specs.promise.Members.{ArrayTree}
 use Rattle.data_types.specs.declared.typed.Typed.{Typed}
 use Rattle.std.specs.Prelude.{All}
 use Rattle.std.proofs.lemmas.List.Elements.{All-get_or}
-use Rattle.data_types.specs.KindTrees.{KindTree, TypedOk}
-use Rattle.data_types.specs.TypedView.{typed_of}
+use Rattle.data_types.specs.promise.KindTrees.{KindTree}
+use Rattle.data_types.specs.KindTrees.{TypedOk}
+use Rattle.data_types.specs.promise.TypedView.{typed_of}
 use Rattle.data_types.proofs.Levels.{get_or-typed}
-use Rattle.layout_rules.specs.Walk.{Fault, first_fault, LayoutOk}
+use Rattle.layout_rules.specs.promise.Walk.{Fault, first_fault, LayoutOk}
 use Rattle.layout_rules.proofs.Lawful.{first_fault-lawful, lawful-first_fault, left-none, right-none}
-use Rattle.root_check.specs.Children.{ChildFault, at_child, children_fault}
+use Rattle.root_check.specs.promise.Children.{ChildFault, at_child, children_fault}
 
 at_child-none : (k : ℕ) (fault : Option Fault) → at_child k fault ≡ None → fault ≡ None
 at_child-none k None e = refl

@@ -2,15 +2,17 @@
 use Rattle.std.proofs.Common.{◌≡◌, ℕ, Bool, true, false, ℤ, pos, negsuc, not, Option, None, Some, refl, arith}
 use Rattle.std.specs.Prelude.{◌≤ℤ◌, ◌==◌}
 use Rattle.std.proofs.lemmas.Bool.Decides.{nat_tests}
-use Rattle.tree_model.specs.Tree.{Released, Live, IsLive}
-use Rattle.raw_array.specs.Members.{ArrayTree, members_of}
+use Rattle.tree_model.specs.promise.TreeData.{Released, Live}
+use Rattle.tree_model.specs.promise.TreeParts.{IsLive}
+use Rattle.raw_array.specs.promise.Members.{ArrayTree, members_of}
 use Rattle.layout_rules.specs.declared.rule.Numbers.{Numbers}
-use Rattle.layout_rules.specs.Rules.{fault_if, is_negative, count_wrong}
+use Rattle.layout_rules.specs.promise.Rules.{fault_if, is_negative, count_wrong}
 use Rattle.layout_rules.proofs.Lawful.{left-none, right-none}
 use Rattle.root_check.specs.declared.own.OwnFault.{OwnFault}
 use Rattle.root_check.specs.declared.own.OwnRule.{OwnRule}
 use Rattle.root_check.specs.declared.own.OwnRule.TheVariants as rules
-use Rattle.root_check.specs.OwnRules.{released, own_fails, own_found, own_fault, OwnHolds}
+use Rattle.root_check.specs.promise.OwnRules.{released, own_fails, own_found, own_fault}
+use Rattle.root_check.specs.OwnRules.{OwnHolds}
 
 found-none : (rule : OwnRule) (fault : Option Numbers) → own_found rule fault ≡ None → fault ≡ None
 found-none rule None e = refl

@@ -8,21 +8,24 @@ use Rattle.std.proofs.lemmas.List.Elements.{All-push}
 use Rattle.schema_meta.specs.declared.pair.Pair.{Pair}
 use Rattle.schema_meta.specs.declared.fault.MetaFault.{MetaFault}
 use Rattle.schema_meta.specs.Meta.{Reads}
-use Rattle.tree_model.specs.Tree.{Released, dictionary_of}
-use Rattle.raw_schema.specs.Members.{SchemaTree, members_of}
+use Rattle.tree_model.specs.promise.TreeData.{Released}
+use Rattle.tree_model.specs.promise.TreeParts.{dictionary_of}
+use Rattle.raw_schema.specs.promise.Members.{SchemaTree, members_of}
 use Rattle.data_types.specs.declared.typed.Typed.{Typed}
-use Rattle.data_types.specs.KindTrees.{KindTree, TypedOk}
-use Rattle.data_types.specs.TypedView.{typed_of}
-use Rattle.data_types.specs.Ways.{steps_of}
+use Rattle.data_types.specs.promise.KindTrees.{KindTree}
+use Rattle.data_types.specs.KindTrees.{TypedOk}
+use Rattle.data_types.specs.promise.TypedView.{typed_of}
+use Rattle.data_types.specs.promise.Ways.{steps_of}
 use Rattle.schema_check.specs.declared.schema.SchemaFault.TheVariants as schema
-use Rattle.schema_check.specs.Schemas.{MetaFits, TypedOf}
-use Rattle.schema_check.specs.SchemaAnswers.{MetaRefused}
+use Rattle.schema_check.specs.promise.Schemas.{MetaFits, TypedOf}
+use Rattle.schema_check.specs.promise.SchemaAnswers.{MetaRefused}
 use Rattle.schema_check.proofs.SchemaOne.{AnswerLaw}
 use Rattle.root_check.specs.declared.own_schema.OwnSchemaFault.{OwnSchemaFault}
 use Rattle.root_check.specs.declared.own_schema.OwnSchemaFault.TheVariants.{Meta, Dictionary}
 use Rattle.root_check.specs.declared.kids.ChildKindsFault.{ChildKindsFault}
 use Rattle.root_check.specs.declared.kids.ChildKindsFault.TheVariants.{Child, NoMemory}
-use Rattle.root_check.specs.Schemas.{OwnSchemaReads, KidFault, IsKidFault, KidsRead}
+use Rattle.root_check.specs.promise.Schemas.{OwnSchemaReads, KidFault, IsKidFault}
+use Rattle.root_check.specs.Schemas.{KidsRead}
 use Rattle.root_check.specs.KidAnswers.{IsFaultOfKids, GivesKids}
 
 abbrev pub MetaLaw : Type 0

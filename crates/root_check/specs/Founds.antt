@@ -3,7 +3,7 @@ use Rattle.std.specs.Prelude.{Option, None, Some, Result, Ok, Err}
 use Rattle.layout_rules.specs.Found.{fault_of}
 use Rattle.root_check.specs.declared.own.OwnFault.{OwnFault}
 use Rattle.root_check.specs.declared.children.FaultyChild.{FaultyChild}
-use Rattle.root_check.specs.Children.{ChildFault}
+use Rattle.root_check.specs.promise.Children.{ChildFault}
 
 abbrev pub found_own : {X : Type 0} → Result X OwnFault → Option OwnFault
 found_own (Ok x) = None

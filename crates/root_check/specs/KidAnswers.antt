@@ -1,16 +1,16 @@
 -- What the answer on the kinds of children says.
 use Rattle.std.specs.Prelude.{◌≡◌, ℕ, List, map, Result, Ok, Err, Vec}
 use Rattle.std.specs.Global.{Global}
-use Rattle.raw_schema.specs.Members.{SchemaTree}
+use Rattle.raw_schema.specs.promise.Members.{SchemaTree}
 use Rattle.data_types.specs.declared.typed.Typed.{Typed}
-use Rattle.data_types.specs.KindTrees.{KindTree}
-use Rattle.data_types.specs.TypedView.{typed_of}
-use Rattle.data_types.specs.Ways.{steps_of}
-use Rattle.schema_check.specs.Schemas.{SchemaFaultIs}
+use Rattle.data_types.specs.promise.KindTrees.{KindTree}
+use Rattle.data_types.specs.promise.TypedView.{typed_of}
+use Rattle.data_types.specs.promise.Ways.{steps_of}
+use Rattle.schema_check.specs.promise.Schemas.{SchemaFaultIs}
 use Rattle.schema_check.specs.declared.schema.SchemaFault.TheVariants as schema
 use Rattle.root_check.specs.declared.kids.ChildKindsFault.{ChildKindsFault}
 use Rattle.root_check.specs.declared.kids.ChildKindsFault.TheVariants.{Child, NoMemory}
-use Rattle.root_check.specs.Schemas.{KidFault, IsKidFault}
+use Rattle.root_check.specs.promise.Schemas.{KidFault, IsKidFault}
 
 -- It is the first child at fault, if it is no out-of-memory: a fault inside is never that.
 abbrev pub IsFaultOfKids : List SchemaTree → ChildKindsFault → Type 0

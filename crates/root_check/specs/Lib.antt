@@ -1,5 +1,5 @@
+pub mod promise
 pub mod OwnRules
-pub mod Children
 pub mod Founds
 pub mod Schemas
 pub mod KidAnswers

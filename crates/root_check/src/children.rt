@@ -1,12 +1,12 @@
 //! The first child at fault.
 ghost use Rattle.std.specs.Prelude.{◌≡◌, ◌↔◌, IsOk, All, length, map};
 ghost use Rattle.std.specs.List.{AllZip};
-ghost use Rattle.tree_model.specs.Tree.{IsLive, children_of};
-ghost use Rattle.raw_array.specs.Members.{ArrayTree};
+ghost use Rattle.tree_model.specs.promise.TreeParts.{IsLive, children_of};
+ghost use Rattle.raw_array.specs.promise.Members.{ArrayTree};
 ghost use Rattle.data_types.specs.KindTrees.{TypedOk};
-ghost use Rattle.data_types.specs.TypedView.{typed_of};
-ghost use Rattle.layout_rules.specs.Walk.{LayoutOk};
-ghost use Rattle.root_check.specs.Children.{children_fault};
+ghost use Rattle.data_types.specs.promise.TypedView.{typed_of};
+ghost use Rattle.layout_rules.specs.promise.Walk.{LayoutOk};
+ghost use Rattle.root_check.specs.promise.Children.{children_fault};
 ghost use Rattle.root_check.specs.Founds.{found_child};
 
 use data_types::Typed;

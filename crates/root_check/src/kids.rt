@@ -1,13 +1,15 @@
 //! The kinds of each child of a schema.
 ghost use Rattle.std.specs.Prelude.{◌≡◌, ◌^◌, ◌-◌, ◌<◌, All, IfOk, IfErr, List, Result, map, length};
 ghost use Rattle.std.specs.List.{AllZip};
-ghost use Rattle.tree_model.specs.Tree.{IsLive, children_of, child_at};
-ghost use Rattle.raw_schema.specs.Members.{SchemaTree};
-ghost use Rattle.data_types.specs.KindTrees.{KindTree, TypedOk};
-ghost use Rattle.data_types.specs.TypedView.{typed_of};
-ghost use Rattle.schema_check.specs.Schemas.{TypedOf};
+ghost use Rattle.tree_model.specs.promise.TreeParts.{IsLive, children_of, child_at};
+ghost use Rattle.raw_schema.specs.promise.Members.{SchemaTree};
+ghost use Rattle.data_types.specs.promise.KindTrees.{KindTree};
+ghost use Rattle.data_types.specs.KindTrees.{TypedOk};
+ghost use Rattle.data_types.specs.promise.TypedView.{typed_of};
+ghost use Rattle.schema_check.specs.promise.Schemas.{TypedOf};
 ghost use Rattle.root_check.specs.declared.kids.ChildKindsFault.TheVariants as faults;
-ghost use Rattle.root_check.specs.Schemas.{KidFault, KidsRead};
+ghost use Rattle.root_check.specs.promise.Schemas.{KidFault};
+ghost use Rattle.root_check.specs.Schemas.{KidsRead};
 ghost use Rattle.root_check.specs.KidAnswers.{IsFaultOfKids, IsFaultOfKid, GivesKids};
 
 use crate::laws::one_root_answer;

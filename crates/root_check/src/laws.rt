@@ -1,14 +1,16 @@
 //! Laws of the answers on schemas, and of arrays at which no rule fails. The calls do nothing.
 ghost use Rattle.std.specs.Prelude.{◌≡◌, ℕ, List, Result, None, length};
 ghost use Rattle.std.specs.List.{AllZip};
-ghost use Rattle.raw_schema.specs.Members.{SchemaTree};
-ghost use Rattle.raw_array.specs.Members.{ArrayTree};
-ghost use Rattle.data_types.specs.KindTrees.{KindTree};
-ghost use Rattle.layout_rules.specs.Walk.{LayoutOk};
-ghost use Rattle.root_check.specs.OwnRules.{own_fault, OwnHolds};
-ghost use Rattle.root_check.specs.Children.{children_fault};
+ghost use Rattle.raw_schema.specs.promise.Members.{SchemaTree};
+ghost use Rattle.raw_array.specs.promise.Members.{ArrayTree};
+ghost use Rattle.data_types.specs.promise.KindTrees.{KindTree};
+ghost use Rattle.layout_rules.specs.promise.Walk.{LayoutOk};
+ghost use Rattle.root_check.specs.promise.OwnRules.{own_fault};
+ghost use Rattle.root_check.specs.OwnRules.{OwnHolds};
+ghost use Rattle.root_check.specs.promise.Children.{children_fault};
 ghost use Rattle.root_check.specs.declared.own_schema.OwnSchemaFault.{OwnSchemaFault};
-ghost use Rattle.root_check.specs.Schemas.{OwnSchemaReads, KidFault, KidsRead};
+ghost use Rattle.root_check.specs.promise.Schemas.{OwnSchemaReads, KidFault};
+ghost use Rattle.root_check.specs.Schemas.{KidsRead};
 
 /// A law: a schema's own parts and its children have one answer each.
 pub fn one_root_answer()

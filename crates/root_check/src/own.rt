@@ -1,10 +1,11 @@
 //! The rules on a root's own numbers, and on how many parts it has.
 ghost use Rattle.std.specs.Prelude.{◌≡◌, None, not, ◌&&◌, pos, negsuc, ◌≤ℤ◌, IfErr, OnOk, length, Option};
 ghost use Rattle.std.specs.Ordering.{int_eq};
-ghost use Rattle.tree_model.specs.Tree.{IsLive, children_of, dictionary_of};
-ghost use Rattle.raw_array.specs.Members.{ArrayTree, members_of};
-ghost use Rattle.layout_rules.specs.Rules.{fault_if, one_if};
-ghost use Rattle.root_check.specs.OwnRules.{OwnHolds, own_fault, own_found, fault_among, number_rules, part_rules};
+ghost use Rattle.tree_model.specs.promise.TreeParts.{IsLive, children_of, dictionary_of};
+ghost use Rattle.raw_array.specs.promise.Members.{ArrayTree, members_of};
+ghost use Rattle.layout_rules.specs.promise.Rules.{fault_if, one_if};
+ghost use Rattle.root_check.specs.promise.OwnRules.{own_fault, own_found, fault_among, number_rules, part_rules};
+ghost use Rattle.root_check.specs.OwnRules.{OwnHolds};
 ghost use Rattle.root_check.specs.Founds.{found_own};
 
 use layout_check::{Numbers, negative, wrong_count};

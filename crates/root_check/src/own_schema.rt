@@ -1,8 +1,8 @@
 //! What the schema of such a root must meet besides its format.
 ghost use Rattle.std.specs.Prelude.{◌≡◌, Result};
-ghost use Rattle.tree_model.specs.Tree.{IsLive, dictionary_of};
-ghost use Rattle.raw_schema.specs.Members.{SchemaTree, members_of};
-ghost use Rattle.root_check.specs.Schemas.{OwnSchemaReads};
+ghost use Rattle.tree_model.specs.promise.TreeParts.{IsLive, dictionary_of};
+ghost use Rattle.raw_schema.specs.promise.Members.{SchemaTree, members_of};
+ghost use Rattle.root_check.specs.promise.Schemas.{OwnSchemaReads};
 
 use raw_schema::RawSchema;
 use schema_meta::{MetaFault, check_meta};

@@ -3,11 +3,11 @@ use Rattle.std.proofs.Common.{◌≡◌, ◌∙◌, ◌+◌, ◌<◌, ◌≤◌,
 use Rattle.std.proofs.Common.{refl, sym, ap, subst, arith, length-append}
 use Rattle.std.proofs.lemmas.List.{length-replicate}
 use Rattle.std.specs.Prelude.{nat_eq, IfErr, IfOk, OnOk, Result, Ok, Err}
-use Rattle.data_types.specs.Value.{Value, Bytes}
-use Rattle.raw_array.specs.Members.{ArrayTree}
-use Rattle.data_types.specs.KindTrees.{KindTree}
-use Rattle.layout_rules.specs.Values.{each, value_at}
-use Rattle.data_types.specs.Groups.{distinct, same}
+use Rattle.data_types.specs.promise.Value.{Value, Bytes}
+use Rattle.raw_array.specs.promise.Members.{ArrayTree}
+use Rattle.data_types.specs.promise.KindTrees.{KindTree}
+use Rattle.layout_rules.specs.promise.Values.{each, value_at}
+use Rattle.data_types.specs.promise.Groups.{distinct, same}
 use Rattle.row_groups.specs.ItemKeys.{array_of, item_of, type_of}
 use Rattle.row_groups.specs.Items.{IsRefusedFor}
 use Rattle.row_groups.specs.declared.column.Column.{Column}

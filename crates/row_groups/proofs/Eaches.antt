@@ -1,6 +1,6 @@
 -- The values of a function at the numbers from one on.
 use Rattle.std.proofs.Common.{◌≡◌, ◌∙◌, ◌+◌, ◌<◌, ◌++◌, ℕ, zero, suc, List, [], ◌∷◌, get_or, ap, arith}
-use Rattle.layout_rules.specs.Values.{each}
+use Rattle.layout_rules.specs.promise.Values.{each}
 
 pub get_or-each : {X : Type 0} → (f : ℕ → X) (a n i : ℕ) (d : X) → i < n → get_or (each f a n) i d ≡ f (a + i)
 get_or-each f a zero i d h = absurd (omega arith)

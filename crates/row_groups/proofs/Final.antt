@@ -6,11 +6,12 @@ use Rattle.std.proofs.lemmas.List.Folds.{flat_map-map}
 use Rattle.std.proofs.lemmas.List.Sums.{position_or_len_is}
 use Rattle.std.specs.List.{concat, flat_map, position_or_len}
 use Rattle.std.specs.Prelude.{if◌then◌else◌, nat_eq}
-use Rattle.data_types.specs.Value.{Value, Null}
-use Rattle.layout_rules.specs.Values.{each}
+use Rattle.data_types.specs.promise.Value.{Value, Null}
+use Rattle.layout_rules.specs.promise.Values.{each}
 use Rattle.array_laws.specs.Items.{AreApart}
 use Rattle.row_groups.specs.Chains.{places_by_number}
-use Rattle.data_types.specs.Groups.{firsts_of, offsets_of, order_of, places, places_of, same, sums_from}
+use Rattle.data_types.specs.promise.Groups.{same, sums_from}
+use Rattle.data_types.specs.Groups.{firsts_of, offsets_of, order_of, places, places_of}
 use Rattle.row_groups.specs.Walk.{IsGrouped}
 use Rattle.row_groups.proofs.Counted.{all-places}
 use Rattle.row_groups.proofs.Eaches.{get_or-each}

@@ -9,12 +9,12 @@ use Rattle.std.proofs.lemmas.Slice.Eq.{bytes_eq-Decides}
 use Rattle.std.specs.Ordering.{int_eq}
 use Rattle.std.specs.Prelude.{◌/◌, ◌==◌, ℤ, pos, negsuc, if◌then◌else◌, nat_eq, nat_lt}
 use Rattle.std.specs.Str.{bytes_eq}
-use Rattle.data_types.specs.Value.{Value, Null, Truth, Whole, Bits, Bytes, Items, Fields, Values}
+use Rattle.data_types.specs.promise.Value.{Value, Null, Truth, Whole, Bits, Bytes, Items, Fields, Values}
 use Rattle.data_types.specs.declared.storage.Storage.{Storage}
 use Rattle.data_types.specs.declared.storage.Storage.TheVariants as storages
-use Rattle.data_types.specs.Packed.{le_number, meant}
-use Rattle.layout_rules.specs.Layout.{natural}
-use Rattle.data_types.specs.Groups.{same}
+use Rattle.data_types.specs.promise.Packed.{le_number, meant}
+use Rattle.layout_rules.specs.promise.Layout.{natural}
+use Rattle.data_types.specs.promise.Groups.{same}
 use Rattle.row_groups.specs.ItemKeys.{AreNumberBytes, HasKey, IsKey, value_of}
 use Rattle.row_groups.specs.Numbering.{Key, same_key}
 

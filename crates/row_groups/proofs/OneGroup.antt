@@ -4,9 +4,10 @@ use Rattle.std.proofs.lemmas.Bool.Decides.{nat_tests}
 use Rattle.std.proofs.lemmas.List.{append-nil}
 use Rattle.std.specs.List.{concat}
 use Rattle.std.specs.Prelude.{if◌then◌else◌, nat_eq, ◌==◌}
-use Rattle.data_types.specs.Value.{Value, Bytes}
-use Rattle.data_types.specs.Groups.{places, sums_from}
-use Rattle.layout_rules.specs.Values.{each}
+use Rattle.data_types.specs.promise.Value.{Value, Bytes}
+use Rattle.data_types.specs.promise.Groups.{sums_from}
+use Rattle.data_types.specs.Groups.{places}
+use Rattle.layout_rules.specs.promise.Values.{each}
 use Rattle.row_groups.specs.Chains.{places_by_number}
 use Rattle.row_groups.specs.Walk.{IsGrouped}
 use Rattle.row_groups.specs.declared.groups.Groups.{Groups}

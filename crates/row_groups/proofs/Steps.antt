@@ -8,10 +8,10 @@ use Rattle.std.proofs.lemmas.List.{get_or_append_left, length-append, map-append
 use Rattle.std.proofs.lemmas.Slice.Eq.{bytes_eq-Decides}
 use Rattle.std.specs.List.{list_any}
 use Rattle.std.specs.Prelude.{if◌then◌else◌, nat_eq}
-use Rattle.data_types.specs.Value.{Value}
+use Rattle.data_types.specs.promise.Value.{Value}
 use Rattle.data_types.specs.declared.storage.Storage.{Storage}
-use Rattle.layout_rules.specs.Values.{each}
-use Rattle.data_types.specs.Groups.{distinct, distinct_behind, same}
+use Rattle.layout_rules.specs.promise.Values.{each}
+use Rattle.data_types.specs.promise.Groups.{distinct, distinct_behind, same}
 use Rattle.row_groups.specs.ItemKeys.{HasKey}
 use Rattle.row_groups.specs.Numbering.{IsNumbered, IsNumbering, Key, same_key}
 use Rattle.row_groups.specs.Walk.{IsGrouped, IsWalked}

@@ -1,9 +1,9 @@
 -- The items of an array that are grouped.
 use Rattle.std.specs.Prelude.{ℕ, ◌+◌, ◌-◌, ◌^◌, ◌<◌, List}
-use Rattle.data_types.specs.Value.{Value}
-use Rattle.raw_array.specs.Members.{ArrayTree}
-use Rattle.data_types.specs.KindTrees.{KindTree}
-use Rattle.layout_rules.specs.Values.{each, value_at}
+use Rattle.data_types.specs.promise.Value.{Value}
+use Rattle.raw_array.specs.promise.Members.{ArrayTree}
+use Rattle.data_types.specs.promise.KindTrees.{KindTree}
+use Rattle.layout_rules.specs.promise.Values.{each, value_at}
 use Rattle.row_groups.specs.declared.fault.GroupFault.{GroupFault}
 use Rattle.row_groups.specs.declared.fault.GroupFault.TheVariants.{TooMany, NoMemory}
 

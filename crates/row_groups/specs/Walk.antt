@@ -1,9 +1,9 @@
 -- Items that are numbered by their values, in order of first appearance.
 use Rattle.std.specs.Prelude.{◌≡◌, ◌≢◌, ◌<◌, ◌≤◌, ℕ, nat_eq, List, length, map, get_or, None}
-use Rattle.data_types.specs.Value.{Value}
+use Rattle.data_types.specs.promise.Value.{Value}
 use Rattle.data_types.specs.declared.storage.Storage.{Storage}
-use Rattle.layout_rules.specs.Values.{each}
-use Rattle.data_types.specs.Groups.{distinct, same}
+use Rattle.layout_rules.specs.promise.Values.{each}
+use Rattle.data_types.specs.promise.Groups.{distinct, same}
 use Rattle.row_groups.specs.ItemKeys.{HasKey}
 use Rattle.row_groups.specs.Numbering.{IsNumbering, Key}
 use Rattle.row_groups.specs.declared.numbering.Numbering.{Numbering}

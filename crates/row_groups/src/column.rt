@@ -1,21 +1,22 @@
 //! The items of a column by their keys.
 ghost use Rattle.std.specs.Prelude.{◌≡◌, ◌<◌, ◌+◌, ◌*◌, ◌≤◌, ◌^◌, [], ◌∷◌, ℕ, Some, IsTrue, if◌then◌else◌, length};
 ghost use Rattle.data_types.specs.ColumnForms.{HasForm};
-ghost use Rattle.data_types.specs.FieldText.{form_of};
-ghost use Rattle.data_types.specs.Table.{Flat};
-ghost use Rattle.data_types.specs.Value.Value.{Bytes};
-ghost use Rattle.raw_array.specs.Members.{members_of};
-ghost use Rattle.tree_model.specs.Tree.{IsLive};
-ghost use Rattle.data_types.specs.ColumnKinds.{type_of_kind};
-ghost use Rattle.data_types.specs.KindTrees.{TypedOk, kind_in};
-ghost use Rattle.data_types.specs.TypedView.{typed_of};
-ghost use Rattle.layout_rules.specs.Layout.{bytes, first, laid_out, stored_bytes};
+ghost use Rattle.data_types.specs.promise.FieldText.{form_of};
+ghost use Rattle.data_types.specs.promise.Table.{Flat};
+ghost use Rattle.data_types.specs.promise.Value.Value.{Bytes};
+ghost use Rattle.raw_array.specs.promise.Members.{members_of};
+ghost use Rattle.tree_model.specs.promise.TreeParts.{IsLive};
+ghost use Rattle.data_types.specs.promise.ColumnKinds.{type_of_kind};
+ghost use Rattle.data_types.specs.promise.KindTrees.{kind_in};
+ghost use Rattle.data_types.specs.KindTrees.{TypedOk};
+ghost use Rattle.data_types.specs.promise.TypedView.{typed_of};
+ghost use Rattle.layout_rules.specs.promise.Layout.{bytes, first, laid_out, stored_bytes};
 ghost use Rattle.layout_rules.specs.declared.layout.Layout.TheVariants.{FixedWidth};
-ghost use Rattle.layout_rules.specs.Values.{tree_items};
-ghost use Rattle.layout_rules.specs.Walk.{LayoutOk};
+ghost use Rattle.layout_rules.specs.promise.Values.{tree_items};
+ghost use Rattle.layout_rules.specs.promise.Walk.{LayoutOk};
 ghost use Rattle.arr_import.specs.Lent.{lent_bytes};
 ghost use Rattle.arr_import.specs.Shown.{Shows};
-ghost use Rattle.layout_rules.specs.Rules.{window_limit};
+ghost use Rattle.layout_rules.specs.promise.Rules.{window_limit};
 ghost use Rattle.row_groups.specs.ItemKeys.{AreNumberBytes, HasKey, IsColumn, IsFloat, IsWhole, array_of, item_of, stored_as, type_of};
 
 use arr_import::{Col, ValueRef};

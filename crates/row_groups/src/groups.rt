@@ -1,15 +1,17 @@
 //! The items of a column, grouped by value.
 ghost use Rattle.std.specs.Prelude.{◌≡◌, ◌==◌, ◌+◌, ◌<◌, ◌≤◌, ◌^◌, ◌∷◌, [], IfOk, All, if◌then◌else◌, length, map};
 ghost use Rattle.data_types.specs.ColumnForms.{HasForm};
-ghost use Rattle.data_types.specs.FieldText.{form_of};
-ghost use Rattle.data_types.specs.Table.{Flat};
-ghost use Rattle.data_types.specs.ColumnKinds.{type_of_kind};
-ghost use Rattle.data_types.specs.KindTrees.{TypedOk, kind_in};
-ghost use Rattle.data_types.specs.TypedView.{typed_of};
-ghost use Rattle.layout_rules.specs.Values.{each, tree_items, value_at};
-ghost use Rattle.layout_rules.specs.Walk.{LayoutOk};
+ghost use Rattle.data_types.specs.promise.FieldText.{form_of};
+ghost use Rattle.data_types.specs.promise.Table.{Flat};
+ghost use Rattle.data_types.specs.promise.ColumnKinds.{type_of_kind};
+ghost use Rattle.data_types.specs.promise.KindTrees.{kind_in};
+ghost use Rattle.data_types.specs.KindTrees.{TypedOk};
+ghost use Rattle.data_types.specs.promise.TypedView.{typed_of};
+ghost use Rattle.layout_rules.specs.promise.Values.{each, tree_items, value_at};
+ghost use Rattle.layout_rules.specs.promise.Walk.{LayoutOk};
 ghost use Rattle.array_laws.specs.Items.{AreApart};
-ghost use Rattle.data_types.specs.Groups.{distinct, firsts_of, offsets_of, order_of};
+ghost use Rattle.data_types.specs.promise.Groups.{distinct};
+ghost use Rattle.data_types.specs.Groups.{firsts_of, offsets_of, order_of};
 ghost use Rattle.row_groups.specs.Items.{items_from};
 
 use crate::column::Column;

@@ -2,7 +2,7 @@
 //!
 //! [`grouped`] finds the groups of a column of a flat type: its distinct values in order of first appearance, and the
 //! numbers of the items of each ([`Groups`]). [`first_items`] finds only the first item of each. [`small_groups`] computes
-//! the definitions on examples. These are in `specs/Groups.antt` of `data_types`: which values of a flat type are the same,
+//! the definitions on examples. These are in `specs/promise/Groups.antt` of `data_types`: which values of a flat type are the same,
 //! which are the distinct ones of a column, and which items have each.
 //!
 //! A null is a value of its own, and floats are compared by their bits. An item costs a constant number of steps, whatever

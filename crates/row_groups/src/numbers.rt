@@ -1,9 +1,9 @@
 //! The numbers of items by their values.
 ghost use Rattle.std.specs.Prelude.{◌≡◌, ◌+◌, ◌++◌, ◌<◌, ◌≤◌, ◌^◌, ◌∷◌, [], IfOk, OnOk, if◌then◌else◌};
-ghost use Rattle.layout_rules.specs.Values.{tree_items};
+ghost use Rattle.layout_rules.specs.promise.Values.{tree_items};
 ghost use Rattle.row_groups.specs.ItemKeys.{IsColumn, array_of, item_of};
 ghost use Rattle.row_groups.specs.Walk.{IsGrouped};
-ghost use Rattle.layout_rules.specs.Rules.{window_limit};
+ghost use Rattle.layout_rules.specs.promise.Rules.{window_limit};
 
 use crate::column::Column;
 use crate::numbering::Numbering;

@@ -1,7 +1,8 @@
 //! Small groups, computed from the definitions.
 ghost use Rattle.std.specs.Prelude.{◌≡◌, ◌^◌, ◌∷◌, [], codes};
-ghost use Rattle.data_types.specs.Value.Value.{Bits, Bytes, Null};
-ghost use Rattle.data_types.specs.Groups.{distinct, firsts_of, offsets_of, order_of};
+ghost use Rattle.data_types.specs.promise.Value.Value.{Bits, Bytes, Null};
+ghost use Rattle.data_types.specs.promise.Groups.{distinct};
+ghost use Rattle.data_types.specs.Groups.{firsts_of, offsets_of, order_of};
 
 /// What the definitions say of few values: which are distinct, and where they are.
 pub fn small_groups()

@@ -2,17 +2,17 @@
 use Rattle.std.proofs.Common.{ℕ, pos, ℤ, List, Option, None, Some, refl, inl, inr, arith}
 use Rattle.std.specs.Prelude.{codes}
 use Rattle.data_types.specs.ColumnForms.{HasForm, IsColumnKind}
-use Rattle.data_types.specs.FieldText.{form_of}
+use Rattle.data_types.specs.promise.FieldText.{form_of}
 use Rattle.data_types.specs.Kinds.{KindOk}
 use Rattle.data_types.specs.declared.kind.DataType.{DataType}
 use Rattle.data_types.specs.declared.kind.DataType.TheVariants as kinds
-use Rattle.fmt_string.specs.FormatString.{FormatIs}
-use Rattle.fmt_string.specs.Spelling.{spelling_of}
-use Rattle.tree_model.specs.Tree.{no_trees, absent}
-use Rattle.schema_check.specs.ColumnSchema.{node}
-use Rattle.schema_check.specs.Schemas.{ChildrenFit, MapFits, TypedOf}
+use Rattle.fmt_string.specs.promise.FormatString.{FormatIs}
+use Rattle.fmt_string.specs.promise.Spelling.{spelling_of}
+use Rattle.tree_model.specs.promise.TreeData.{no_trees, absent}
+use Rattle.schema_check.specs.promise.ColumnSchema.{node}
+use Rattle.schema_check.specs.promise.Schemas.{ChildrenFit, MapFits, TypedOf}
 use Rattle.arr_export.specs.ArrayTrees.{flat_type}
-use Rattle.run_ends.specs.RunSchemas.{RunsOf}
+use Rattle.run_ends.specs.promise.RunSchemas.{RunsOf}
 use Rattle.run_ends.specs.RunCoding.{end_kind, runs_type, runs_schema}
 
 no_children : (kind : DataType) → HasForm (form_of kind) → ChildrenFit kind no_trees

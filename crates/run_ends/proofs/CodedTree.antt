@@ -5,26 +5,30 @@ use Rattle.std.specs.List.{concat}
 use Rattle.std.specs.Option.{option_or}
 use Rattle.std.proofs.lemmas.Bool.Decides.{nat_tests}
 use Rattle.std.proofs.lemmas.List.{length-map, length-append, get_or_default}
-use Rattle.data_types.specs.FieldText.{Form, form_of}
+use Rattle.data_types.specs.promise.FieldText.{Form, form_of}
 use Rattle.data_types.specs.declared.kind.DataType.{DataType}
-use Rattle.data_types.specs.Value.{Value, is_null, bytes_of, byte_total}
-use Rattle.data_types.specs.Value.Value.{Null, Whole}
-use Rattle.tree_model.specs.Tree.{children_of}
-use Rattle.raw_array.specs.Members.{ArrayTree, members_of}
+use Rattle.data_types.specs.promise.Value.{Value, is_null, bytes_of, byte_total}
+use Rattle.data_types.specs.promise.Value.Value.{Null, Whole}
+use Rattle.tree_model.specs.promise.TreeParts.{children_of}
+use Rattle.raw_array.specs.promise.Members.{ArrayTree, members_of}
 use Rattle.layout_rules.specs.declared.rule.Numbers.{Numbers}
-use Rattle.layout_rules.specs.Layout.{natural, end}
-use Rattle.layout_rules.specs.Rules.{fault_if, first_below, window_limit}
-use Rattle.layout_rules.specs.Values.{value_at, values_of}
-use Rattle.layout_rules.specs.Walk.{LayoutOk}
+use Rattle.layout_rules.specs.promise.Layout.{natural, end}
+use Rattle.layout_rules.specs.promise.Rules.{fault_if, first_below, window_limit}
+use Rattle.layout_rules.specs.promise.Values.{value_at, values_of}
+use Rattle.layout_rules.specs.promise.Walk.{LayoutOk}
 use Rattle.root_check.proofs.ChildFaults.{lawful-none}
 use Rattle.col_build.specs.declared.item.PushFault.TheVariants.{OutOfRange}
-use Rattle.col_build.specs.Encoding.{Fits, push_fault, is_by_offsets, are_within, are_bounded, is_wide}
-use Rattle.arr_export.specs.ArrayTrees.{column_tree, flat_type}
+use Rattle.col_build.specs.promise.Encoding.{is_by_offsets, are_within, is_wide}
+use Rattle.col_build.specs.Encoding.{Fits, push_fault, are_bounded}
+use Rattle.arr_export.specs.promise.ArrayTrees.{column_tree}
+use Rattle.arr_export.specs.ArrayTrees.{flat_type}
 use Rattle.arr_export.proofs.Each.{value-there, each-is}
-use Rattle.run_ends.specs.Runs.{Ends, ends_in, whole_of, run_count, value_count, run_end, end_before, run_at, run_value, run_values}
-use Rattle.run_ends.specs.RunRules.{EndsNull, EndsFall, ValuesShort, EndsShort, WindowTooLong, null_end, end_falls, by, end_answers, first_answer, RunsOk, kids_fault, child_rule}
+use Rattle.run_ends.specs.promise.Runs.{Ends, ends_in, whole_of, run_count, value_count, run_end, end_before, run_at, run_value, run_values}
+use Rattle.run_ends.specs.promise.RunRules.{EndsNull, EndsFall, ValuesShort, EndsShort, WindowTooLong, null_end, end_falls, by, end_answers, first_answer, kids_fault, child_rule}
+use Rattle.run_ends.specs.RunRules.{RunsOk}
 use Rattle.run_ends.specs.RunHolds.{EndHolds}
-use Rattle.run_ends.specs.RunCoding.{is_same, Run, runs_from, end_kind, end_of, value_of, runs_type, runs_tree}
+use Rattle.run_ends.specs.promise.RunCoding.{is_same, Run, runs_from}
+use Rattle.run_ends.specs.RunCoding.{end_kind, end_of, value_of, runs_type, runs_tree}
 use Rattle.run_ends.proofs.ValueRuns.{IsRising, last_stop, rising, last-is, shown, shows}
 use Rattle.run_ends.proofs.Searching.{run_is}
 

@@ -2,12 +2,13 @@
 use Rattle.std.proofs.Common.{◌≡◌, ℕ, ◌^◌, ◌-◌, Bool, true, false, Option, None, Some, refl, arith}
 use Rattle.std.specs.Prelude.{if◌then◌else◌, nat_lt, is_some, not, List, ◌&&◌}
 use Rattle.std.proofs.lemmas.Bool.Decides.{nat_tests}
-use Rattle.data_types.specs.FieldText.{Form, form_of}
+use Rattle.data_types.specs.promise.FieldText.{Form, form_of}
 use Rattle.data_types.specs.declared.kind.DataType.{DataType}
 use Rattle.data_types.specs.declared.kind.DataType.TheVariants as kinds
-use Rattle.data_types.specs.Value.{Value, byte_total}
+use Rattle.data_types.specs.promise.Value.{Value, byte_total}
 use Rattle.arr_export.specs.ArrayTrees.{flat_type}
-use Rattle.col_build.specs.Encoding.{Fits, HasForm, are_bounded, are_within, is_by_offsets, is_wide}
+use Rattle.col_build.specs.promise.Encoding.{are_within, is_by_offsets, is_wide}
+use Rattle.col_build.specs.Encoding.{Fits, HasForm, are_bounded}
 use Rattle.run_ends.specs.declared.code_fault.CodeFault.TheVariants.{WrongKind, TooLong}
 use Rattle.run_ends.specs.CodeFaults.{decode_fault, is_narrow, most_bytes}
 

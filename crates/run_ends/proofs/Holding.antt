@@ -3,23 +3,25 @@ use Rattle.std.proofs.Common.{◌≡◌, ℕ, zero, suc, ◌+◌, ◌^◌, ◌<�
 use Rattle.std.specs.Prelude.{nat_lt, int_lt, is_none, IsTrue}
 use Rattle.std.specs.List.{AllZip}
 use Rattle.std.proofs.lemmas.Bool.Decides.{nat_tests}
-use Rattle.tree_model.specs.Tree.{Released, children_of}
-use Rattle.raw_array.specs.Members.{ArrayTree, members_of}
-use Rattle.data_types.specs.KindTrees.{KindTree}
+use Rattle.tree_model.specs.promise.TreeData.{Released}
+use Rattle.tree_model.specs.promise.TreeParts.{children_of}
+use Rattle.raw_array.specs.promise.Members.{ArrayTree, members_of}
+use Rattle.data_types.specs.promise.KindTrees.{KindTree}
 use Rattle.layout_rules.specs.declared.rule.Numbers.{Numbers}
-use Rattle.layout_rules.specs.Layout.{end, natural}
-use Rattle.layout_rules.specs.Rules.{fault_if, first_below, window_limit}
-use Rattle.layout_rules.specs.Values.{value_at}
-use Rattle.layout_rules.specs.Walk.{LayoutOk}
+use Rattle.layout_rules.specs.promise.Layout.{end, natural}
+use Rattle.layout_rules.specs.promise.Rules.{fault_if, first_below, window_limit}
+use Rattle.layout_rules.specs.promise.Values.{value_at}
+use Rattle.layout_rules.specs.promise.Walk.{LayoutOk}
 use Rattle.layout_rules.proofs.Firsts.{first_below-none_at}
 use Rattle.layout_rules.proofs.Lawful.{left-none, right-none}
 use Rattle.arr_import.specs.Window.{Window, whole, item_at}
 use Rattle.root_check.specs.declared.own.OwnFault.{OwnFault}
-use Rattle.root_check.specs.OwnRules.{own_fault, OwnHolds}
-use Rattle.root_check.specs.Children.{ChildFault, children_fault}
-use Rattle.run_ends.specs.Runs.{RunTree, Ends, ends_in, run_count, value_count, run_end, end_before}
-use Rattle.run_ends.specs.RunRules.{Rule, EndsNull, EndsFall, ValuesShort, EndsShort, WindowTooLong, null_end, end_falls, own_rule, child_rule, by, kids_fault}
-use Rattle.run_ends.specs.RunRules.{runs_fault}
+use Rattle.root_check.specs.promise.OwnRules.{own_fault}
+use Rattle.root_check.specs.OwnRules.{OwnHolds}
+use Rattle.root_check.specs.promise.Children.{ChildFault, children_fault}
+use Rattle.run_ends.specs.promise.Runs.{RunTree, Ends, ends_in, run_count, value_count, run_end, end_before}
+use Rattle.run_ends.specs.promise.RunRules.{Rule, EndsNull, EndsFall, ValuesShort, EndsShort, WindowTooLong, null_end, end_falls, own_rule, child_rule, by, kids_fault}
+use Rattle.run_ends.specs.promise.RunRules.{runs_fault}
 use Rattle.run_ends.specs.RunHolds.{EndHolds, RunsHold}
 
 -- ---- answers that are none

@@ -6,20 +6,20 @@ use Rattle.std.proofs.lemmas.List.{append-nil, length-append}
 use Rattle.std.proofs.lemmas.List.Elements.{All-append, All-cons, All-nil}
 use Rattle.std.proofs.lemmas.Nat.{mul-le}
 use Rattle.std.specs.Prelude.{All, ◌≢◌}
-use Rattle.data_types.specs.Value.{Value, Null, Bytes, byte_total, bytes_of}
+use Rattle.data_types.specs.promise.Value.{Value, Null, Bytes, byte_total, bytes_of}
 use Rattle.arr_import.specs.Window.{Window, item_at, whole}
-use Rattle.tree_model.specs.Tree.{child_at}
-use Rattle.raw_array.specs.Members.{ArrayTree, members_of}
-use Rattle.data_types.specs.KindTrees.{KindTree}
-use Rattle.layout_rules.specs.Layout.{items}
-use Rattle.layout_rules.specs.Values.{each, tree_items, value_at}
+use Rattle.tree_model.specs.promise.TreeParts.{child_at}
+use Rattle.raw_array.specs.promise.Members.{ArrayTree, members_of}
+use Rattle.data_types.specs.promise.KindTrees.{KindTree}
+use Rattle.layout_rules.specs.promise.Layout.{items}
+use Rattle.layout_rules.specs.promise.Values.{each, tree_items, value_at}
 use Rattle.column_fill.specs.Gathered.{values_of_runs}
 use Rattle.column_fill.specs.declared.runs.Run.{Run}
 use Rattle.arr_export.proofs.Each.{length-each, value-there}
 use Rattle.array_laws.specs.Items.{IsItemOf}
 use Rattle.run_ends.specs.RunHolds.{RunsHold}
 use Rattle.run_ends.specs.RunWalks.{ReachesRun}
-use Rattle.run_ends.specs.Runs.{RunTree, run_of, run_value, run_values}
+use Rattle.run_ends.specs.promise.Runs.{RunTree, run_of, run_value, run_values}
 use Rattle.run_ends.proofs.Holding.{items-shown}
 use Rattle.run_ends.proofs.Searching.{item_holds}
 

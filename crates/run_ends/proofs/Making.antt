@@ -1,21 +1,22 @@
 -- The columns of runs take the runs one by one.
 use Rattle.std.proofs.Common.{◌≡◌, ◌∙◌, ◌≤◌, ◌<◌, ◌+◌, ◌^◌, ◌++◌, ℕ, Bool, true, List, [], ◌∷◌, length, map, drop, get_or, pos, refl, sym, ap, subst, arith}
 use Rattle.std.proofs.lemmas.List.{append-nil, append_assoc, drop_all, map-append}
-use Rattle.data_types.specs.Storage.{storage_of}
-use Rattle.data_types.specs.Value.{Value, Null, Whole}
+use Rattle.data_types.specs.promise.Storage.{storage_of}
+use Rattle.data_types.specs.promise.Value.{Value, Null, Whole}
 use Rattle.data_types.specs.declared.kind.DataType.{DataType}
 use Rattle.data_types.specs.declared.storage.Storage.{Storage}
 use Rattle.data_types.specs.declared.storage.Storage.TheVariants.{Wholes}
 use Rattle.arr_import.specs.Window.{Window, item_at, items_of}
 use Rattle.arr_export.proofs.Each.{length-each, value-there}
-use Rattle.layout_rules.specs.Values.{value_at}
+use Rattle.layout_rules.specs.promise.Values.{value_at}
 use Rattle.col_build.specs.Encoding.{Fits}
 use Rattle.col_build.specs.Holding.{Adds, Holds, HoldsWholes}
 use Rattle.col_build.specs.Holding as held
 use Rattle.column_fill.specs.Takes.{Takes}
 use Rattle.column_fill.proofs.Taken.{takes-one}
 use Rattle.run_ends.specs.declared.encoder.Making.{Making}
-use Rattle.run_ends.specs.RunCoding.{IsRun, Run, end_kind, end_of, runs_from, value_of}
+use Rattle.run_ends.specs.promise.RunCoding.{Run, runs_from}
+use Rattle.run_ends.specs.RunCoding.{IsRun, end_kind, end_of, value_of}
 use Rattle.run_ends.specs.RunMaking.{HoldsRuns, HoldsUpTo}
 use Rattle.run_ends.proofs.CodedTree.{fit_ends, fit_values}
 

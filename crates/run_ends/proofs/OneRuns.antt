@@ -2,18 +2,22 @@
 use Rattle.std.proofs.Common.{◌≡◌, ◌≢◌, List, [], ◌∷◌, length, map, Option, Some, None, refl, ap, sym, ◌∙◌, subst, inl, inr, arith}
 use Rattle.std.specs.Prelude.{Result, Ok, Err, ◌⊎◌, IfOk, IfErr, All, codes}
 use Rattle.std.specs.List.{AllZip}
-use Rattle.schema_check.specs.Schemas.{TypedOf}
-use Rattle.tree_model.specs.Tree.{Released, Live, IsLive, children_of}
-use Rattle.raw_schema.specs.Members.{SchemaTree, members_of}
-use Rattle.data_types.specs.KindTrees.{KindTree, TypedOk}
+use Rattle.schema_check.specs.promise.Schemas.{TypedOf}
+use Rattle.tree_model.specs.promise.TreeData.{Released, Live}
+use Rattle.tree_model.specs.promise.TreeParts.{IsLive, children_of}
+use Rattle.raw_schema.specs.promise.Members.{SchemaTree, members_of}
+use Rattle.data_types.specs.promise.KindTrees.{KindTree}
+use Rattle.data_types.specs.KindTrees.{TypedOk}
 use Rattle.data_types.specs.declared.typed.Typed.{Typed}
-use Rattle.data_types.specs.TypedView.{typed_of}
+use Rattle.data_types.specs.promise.TypedView.{typed_of}
 use Rattle.root_check.specs.declared.own_schema.OwnSchemaFault.{OwnSchemaFault}
-use Rattle.root_check.specs.Schemas.{OwnSchemaReads, KidFault, KidsRead}
+use Rattle.root_check.specs.promise.Schemas.{OwnSchemaReads, KidFault}
+use Rattle.root_check.specs.Schemas.{KidsRead}
 use Rattle.run_ends.specs.declared.kinds.RunTyped.{RunTyped}
 use Rattle.run_ends.specs.declared.schema_fault.RunsSchemaFault.{RunsSchemaFault}
-use Rattle.run_ends.specs.Runs.{RunTree, RunTypedOk, IsEnds}
-use Rattle.run_ends.specs.RunSchemas.{ArePlainRuns, AreOver, RunsOf, SchemaFound, IsReleased, Format, OwnPart, ChildCount, Child, EndsType, RunsReads}
+use Rattle.run_ends.specs.promise.Runs.{RunTree, IsEnds}
+use Rattle.run_ends.specs.Runs.{RunTypedOk}
+use Rattle.run_ends.specs.promise.RunSchemas.{ArePlainRuns, AreOver, RunsOf, SchemaFound, IsReleased, Format, OwnPart, ChildCount, Child, EndsType, RunsReads}
 use Rattle.run_ends.specs.RunAnswers.{runs_of, named, IsRunsFault, FailsIf, GivesIf, GivesRuns}
 
 abbrev pub OwnLaw : Type 0

@@ -2,9 +2,9 @@
 use Rattle.std.proofs.Common.{◌≡◌, ℕ, zero, suc, ◌+◌, ◌-◌, ◌<◌, ◌≤◌, Bool, true, false, ℤ, pos, negsuc, refl, ap, sym, ◌∙◌, subst, inl, inr, arith}
 use Rattle.std.specs.Prelude.{if◌then◌else◌, int_lt, nat_lt, ◌⊎◌}
 use Rattle.std.proofs.lemmas.Bool.Decides.{nat_tests}
-use Rattle.raw_array.specs.Members.{ArrayTree, members_of}
-use Rattle.layout_rules.specs.Layout.{natural, first, items}
-use Rattle.run_ends.specs.Runs.{RunTree, Ends, ends_in, run_count, run_end, end_before, ends_above, first_from, run_at, run_of}
+use Rattle.raw_array.specs.promise.Members.{ArrayTree, members_of}
+use Rattle.layout_rules.specs.promise.Layout.{natural, first, items}
+use Rattle.run_ends.specs.promise.Runs.{RunTree, Ends, ends_in, run_count, run_end, end_before, ends_above, first_from, run_at, run_of}
 use Rattle.run_ends.specs.RunHolds.{EndHolds, RunsHold, Parted}
 
 -- ---- the first of some numbers

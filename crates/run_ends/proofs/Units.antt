@@ -1,18 +1,19 @@
 -- The units and the blocks of columns that were made.
 use Rattle.std.proofs.Common.{◌≡◌, ◌∙◌, ◌+◌, ◌≤◌, ℕ, List, None, Result, Ok, Err, map, ap, sym, subst, arith}
 use Rattle.std.specs.Prelude.{IfOk, OnOk, OnErr, MatchResult}
-use Rattle.data_types.specs.Value.{Value}
+use Rattle.data_types.specs.promise.Value.{Value}
 use Rattle.data_types.specs.declared.kind.DataType.{DataType}
-use Rattle.raw_array.specs.Members.{ArrayTree, Cost}
-use Rattle.col_build.specs.Finished.{blocks_of}
+use Rattle.raw_array.specs.promise.Members.{ArrayTree, Cost}
+use Rattle.col_build.specs.promise.Finished.{blocks_of}
 use Rattle.col_build.specs.Holding.{Holds}
 use Rattle.col_build.specs.declared.builder.Builder.{Builder}
-use Rattle.arr_export.specs.ArrayTrees.{column_tree}
+use Rattle.arr_export.specs.promise.ArrayTrees.{column_tree}
 use Rattle.column_fill.proofs.ColumnCosts.{column-cost, few-blocks}
 use Rattle.tree_model.specs.Tree.{Depth}
-use Rattle.unit_pass.specs.Tally.{risen}
+use Rattle.unit_pass.specs.promise.Tally.{risen}
 use Rattle.run_ends.specs.declared.encoder.Making.{Making}
-use Rattle.run_ends.specs.RunCoding.{Run, end_kind, end_of, over_runs, tree_of_runs, value_of}
+use Rattle.run_ends.specs.promise.RunCoding.{Run}
+use Rattle.run_ends.specs.RunCoding.{end_kind, end_of, over_runs, tree_of_runs, value_of}
 use Rattle.run_ends.specs.RunMaking.{HoldsRuns}
 
 -- of a column that was made

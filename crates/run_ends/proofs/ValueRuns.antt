@@ -8,19 +8,21 @@ use Rattle.std.proofs.lemmas.Bool.{eqb-true}
 use Rattle.std.proofs.lemmas.List.{drop_more, drop_all}
 use Rattle.std.proofs.lemmas.Bool.Decides.{Decides-int_eq, nat_tests}
 use Rattle.std.proofs.lemmas.Slice.Eq.{bytes_eq-Decides}
-use Rattle.data_types.specs.Value.{Value}
-use Rattle.data_types.specs.Value.Value.{Null, Truth, Whole, Bits, Bytes}
+use Rattle.data_types.specs.promise.Value.{Value}
+use Rattle.data_types.specs.promise.Value.Value.{Null, Truth, Whole, Bits, Bytes}
 use Rattle.data_types.specs.declared.kind.DataType.{DataType}
 use Rattle.data_types.specs.declared.kind.DataType.TheVariants as kinds
-use Rattle.tree_model.specs.Tree.{Released, Live, Trees, absent, IsLive}
-use Rattle.raw_array.specs.Members.{ArrayTree, members_of}
-use Rattle.data_types.specs.KindTrees.{KindTree}
-use Rattle.layout_rules.specs.Layout.{buffer, first, is_valid_by, stored_bytes}
-use Rattle.layout_rules.specs.Values.{tree_items, value_at, values_of}
+use Rattle.tree_model.specs.promise.TreeData.{Released, Live, Trees, absent}
+use Rattle.tree_model.specs.promise.TreeParts.{IsLive}
+use Rattle.raw_array.specs.promise.Members.{ArrayTree, members_of}
+use Rattle.data_types.specs.promise.KindTrees.{KindTree}
+use Rattle.layout_rules.specs.promise.Layout.{buffer, first, is_valid_by, stored_bytes}
+use Rattle.layout_rules.specs.promise.Values.{tree_items, value_at, values_of}
 use Rattle.arr_import.specs.Window.{Window, whole, item_at}
 use Rattle.arr_export.proofs.Each.{value-there, length-each}
 use Rattle.run_ends.proofs.Holding.{items-shown}
-use Rattle.run_ends.specs.RunCoding.{is_same, Run, runs_from, AreApart, IsRun}
+use Rattle.run_ends.specs.promise.RunCoding.{is_same, Run, runs_from}
+use Rattle.run_ends.specs.RunCoding.{AreApart, IsRun}
 
 -- ---- the same value
 

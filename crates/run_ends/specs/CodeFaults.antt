@@ -1,20 +1,12 @@
 -- Which columns aren't made into runs, and which runs aren't made into a column ("Arrow Columnar Format", "Run-End Encoded Layout").
-use Rattle.std.specs.Prelude.{ℕ, ◌^◌, ◌-◌, nat_lt, ◌&&◌, Bool, true, false, not, if◌then◌else◌, List, Option, None, Some, Result, Ok, Err}
-use Rattle.data_types.specs.Value.{Value, byte_total}
+use Rattle.std.specs.Prelude.{ℕ, ◌^◌, ◌-◌, nat_lt, ◌&&◌, Bool, false, not, if◌then◌else◌, List, Option, None, Some, Result, Ok, Err}
+use Rattle.data_types.specs.promise.Value.{Value, byte_total}
 use Rattle.data_types.specs.declared.kind.DataType.{DataType}
 use Rattle.data_types.specs.declared.kind.DataType.TheVariants as kinds
-use Rattle.data_types.specs.KindTrees.{KindTree, kind_in}
-use Rattle.column_fill.specs.FlatColumns.{is_flat_column}
+use Rattle.data_types.specs.promise.KindTrees.{KindTree, kind_in}
+use Rattle.column_fill.specs.promise.FlatColumns.{is_flat_column}
 use Rattle.run_ends.specs.declared.code_fault.CodeFault.{CodeFault}
 use Rattle.run_ends.specs.declared.code_fault.CodeFault.TheVariants.{WrongKind, TooLong, NoMemory}
-
--- the most items that ends of 32 bits name
-abbrev pub most_items : ℕ
-most_items = 2 ^ 31 - 1
-
--- Why a column of these kinds with this many items isn't made into runs: its values aren't of a flat type, or there are too many.
-abbrev pub code_fault : KindTree → ℕ → Option CodeFault
-code_fault typed items = if not (is_flat_column typed) then Some WrongKind else if nat_lt most_items items then Some TooLong else None
 
 -- texts or bytes between offsets of 32 bits
 abbrev pub is_narrow : DataType → Bool

@@ -1,8 +1,8 @@
 -- What contracts see of a column whose runs are looked for.
 use Rattle.std.specs.Prelude.{List}
-use Rattle.data_types.specs.Value.{Value}
-use Rattle.data_types.specs.TypedView.{typed_of}
-use Rattle.layout_rules.specs.Values.{values_of}
+use Rattle.data_types.specs.promise.Value.{Value}
+use Rattle.data_types.specs.promise.TypedView.{typed_of}
+use Rattle.layout_rules.specs.promise.Values.{values_of}
 use Rattle.run_ends.specs.declared.column_runs.ColumnRuns.{ColumnRuns}
 
 -- the values of its items

@@ -2,7 +2,7 @@
 use Rattle.std.specs.Prelude.{ℕ, ◌++◌, List, codes, decimal}
 use Rattle.std.specs.Fmt.{signed_decimal}
 use Rattle.schema_meta.specs.FaultTexts.{read_fault_text}
-use Rattle.layout_rules.specs.FaultTexts.{layout_fault_text}
+use Rattle.layout_rules.specs.promise.FaultTexts.{layout_fault_text}
 use Rattle.schema_check.specs.FaultTexts.{schema_fault_text}
 use Rattle.run_ends.specs.declared.code_fault.CodeFault.{CodeFault}
 use Rattle.run_ends.specs.declared.code_fault.CodeFault.TheVariants as codings

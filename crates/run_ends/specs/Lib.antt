@@ -1,6 +1,6 @@
+pub mod promise
 pub mod Runs
 pub mod RunRules
-pub mod RunSchemas
 pub mod RunHolds
 pub mod SchemaParts
 pub mod RunAnswers

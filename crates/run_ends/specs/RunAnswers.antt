@@ -1,8 +1,8 @@
 -- What the answers of the calls say.
 use Rattle.std.specs.Prelude.{◌≡◌, Option, None, Some, Result, Ok, Err}
-use Rattle.raw_schema.specs.Members.{SchemaTree}
-use Rattle.data_types.specs.TypedView.{typed_of}
-use Rattle.data_types.specs.Ways.{steps_of}
+use Rattle.raw_schema.specs.promise.Members.{SchemaTree}
+use Rattle.data_types.specs.promise.TypedView.{typed_of}
+use Rattle.data_types.specs.promise.Ways.{steps_of}
 use Rattle.schema_check.specs.declared.schema.SchemaFault.TheVariants as schema
 use Rattle.schema_meta.specs.declared.fault.MetaFault.TheVariants as meta
 use Rattle.layout_rules.specs.Found.{fault_of}
@@ -14,10 +14,10 @@ use Rattle.run_ends.specs.declared.schema_fault.RunsSchemaFault.TheVariants as f
 use Rattle.run_ends.specs.declared.rule.RunsRule.{RunsRule}
 use Rattle.run_ends.specs.declared.rule.RunsRule.TheVariants as rules
 use Rattle.run_ends.specs.declared.rule.RunsFault.{RunsFault}
-use Rattle.run_ends.specs.Runs.{RunTree}
-use Rattle.run_ends.specs.RunRules.{Rule, Own, Child, EndsNull, EndsFall, ValuesShort, EndsShort, WindowTooLong, RunsFound}
-use Rattle.run_ends.specs.RunSchemas as schemas
-use Rattle.run_ends.specs.RunSchemas.{SchemaFound, RunsSchemaFails}
+use Rattle.run_ends.specs.promise.Runs.{RunTree}
+use Rattle.run_ends.specs.promise.RunRules.{Rule, Own, Child, EndsNull, EndsFall, ValuesShort, EndsShort, WindowTooLong, RunsFound}
+use Rattle.run_ends.specs.promise.RunSchemas as schemas
+use Rattle.run_ends.specs.promise.RunSchemas.{SchemaFound, RunsSchemaFails}
 
 -- the kinds that the code keeps
 abbrev pub runs_of : RunTyped → RunTree

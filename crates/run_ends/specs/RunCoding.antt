@@ -1,41 +1,20 @@
 -- Values as runs ("Arrow Columnar Format", "Run-End Encoded Layout"), and the schema and the array of such runs.
-use Rattle.std.specs.Prelude.{◌≡◌, ℕ, suc, ◌+◌, ◌==◌, pos, Bool, true, false, not, if◌then◌else◌, codes, List, [], ◌∷◌, length, map, get_or, drop, Some, None}
-use Rattle.std.specs.Ordering.{int_eq}
-use Rattle.std.specs.Str.{bytes_eq}
+use Rattle.std.specs.Prelude.{◌≡◌, ℕ, ◌+◌, pos, true, false, codes, List, [], ◌∷◌, length, map, get_or, drop, Some, None}
 use Rattle.data_types.specs.declared.kind.DataType.{DataType}
 use Rattle.data_types.specs.declared.kind.DataType.TheVariants as kinds
-use Rattle.data_types.specs.Value.{Value}
-use Rattle.data_types.specs.Value.Value.{Null, Truth, Whole, Bits, Bytes}
-use Rattle.tree_model.specs.Tree.{Live, no_trees, trees, absent}
-use Rattle.raw_schema.specs.Members.{SchemaTree}
-use Rattle.raw_array.specs.Members.{ArrayTree}
+use Rattle.data_types.specs.promise.Value.{Value}
+use Rattle.data_types.specs.promise.Value.Value.{Null, Whole}
+use Rattle.tree_model.specs.promise.TreeData.{Live, no_trees, trees, absent}
+use Rattle.raw_schema.specs.promise.Members.{SchemaTree}
+use Rattle.raw_array.specs.promise.Members.{ArrayTree}
 use Rattle.raw_array.specs.declared.array.ReleaseKind.TheVariants.{Assembled}
-use Rattle.col_build.specs.Finished.{blocks_of}
-use Rattle.data_types.specs.KindTrees.{kind_in}
-use Rattle.schema_check.specs.ColumnSchema.{node, values_schema}
-use Rattle.arr_export.specs.ArrayTrees.{column_tree, flat_type}
-use Rattle.run_ends.specs.Runs.{RunTree, run_values}
-
--- whether two values of flat types are the same: a null is the same as any null, and floats are by their bits
-abbrev pub is_same : Value → Value → Bool
-is_same Null Null = true
-is_same (Truth a) (Truth b) = if a then b else not b
-is_same (Whole a) (Whole b) = int_eq a b
-is_same (Bits a) (Bits b) = a == b
-is_same (Bytes a) (Bytes b) = bytes_eq a b
-is_same _ _ = false
-
--- a run: its value, and the place behind its last item
-pub record Run : Type 0 where
-  pub value : Value
-  pub stop : ℕ
-
--- The runs of values from a place on: a value ends a run where the next one isn't the same, or none is there.
-abbrev pub runs_from : ℕ → List Value → List Run
-runs_from at [] = []
-runs_from at (value ∷ []) = record { value = value; stop = suc at } ∷ []
-runs_from at (value ∷ next ∷ rest) =
-    if is_same value next then runs_from (suc at) (next ∷ rest) else record { value = value; stop = suc at } ∷ runs_from (suc at) (next ∷ rest)
+use Rattle.col_build.specs.promise.Finished.{blocks_of}
+use Rattle.data_types.specs.promise.KindTrees.{kind_in}
+use Rattle.schema_check.specs.promise.ColumnSchema.{node, values_schema}
+use Rattle.arr_export.specs.promise.ArrayTrees.{column_tree}
+use Rattle.arr_export.specs.ArrayTrees.{flat_type}
+use Rattle.run_ends.specs.promise.Runs.{RunTree, run_values}
+use Rattle.run_ends.specs.promise.RunCoding.{Run, is_same, runs_from}
 
 -- a run begins at an item and ends before another, where the next runs begin
 abbrev pub IsRun : List Value → ℕ → ℕ → Type 0

@@ -1,7 +1,7 @@
 -- What contracts see of a run-end encoded array that is read in place.
-use Rattle.raw_array.specs.Members.{ArrayTree}
+use Rattle.raw_array.specs.promise.Members.{ArrayTree}
 use Rattle.run_ends.specs.declared.column.RunCol.{RunCol}
-use Rattle.run_ends.specs.Runs.{RunTree}
+use Rattle.run_ends.specs.promise.Runs.{RunTree}
 use Rattle.run_ends.specs.RunAnswers.{runs_of}
 
 -- its kinds

@@ -1,12 +1,12 @@
 -- What holds of a run-end encoded array at which no rule fails.
 use Rattle.std.specs.Prelude.{◌≡◌, ℕ, Bool, true, false, ◌<◌, ◌≤◌, pos}
-use Rattle.tree_model.specs.Tree.{child_at}
-use Rattle.raw_array.specs.Members.{ArrayTree, members_of}
-use Rattle.layout_rules.specs.Layout.{end, natural}
-use Rattle.layout_rules.specs.Rules.{window_limit}
-use Rattle.layout_rules.specs.Walk.{LayoutOk}
+use Rattle.tree_model.specs.promise.TreeParts.{child_at}
+use Rattle.raw_array.specs.promise.Members.{ArrayTree, members_of}
+use Rattle.layout_rules.specs.promise.Layout.{end, natural}
+use Rattle.layout_rules.specs.promise.Rules.{window_limit}
+use Rattle.layout_rules.specs.promise.Walk.{LayoutOk}
 use Rattle.root_check.specs.OwnRules.{OwnHolds}
-use Rattle.run_ends.specs.Runs.{RunTree, Ends, ends_in, run_count, value_count, run_end, end_before}
+use Rattle.run_ends.specs.promise.Runs.{RunTree, Ends, ends_in, run_count, value_count, run_end, end_before}
 
 -- an end is above the one before it, and so above 0
 pub record EndHolds (ends : Ends) (k : ℕ) : Type 0 where

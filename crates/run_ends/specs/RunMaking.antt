@@ -1,11 +1,13 @@
 -- The columns of runs in the making: their ends, and their values.
 use Rattle.std.specs.Prelude.{◌≡◌, ℕ, ◌<◌, ◌++◌, List, length, map, drop}
 use Rattle.data_types.specs.declared.kind.DataType.{DataType}
-use Rattle.data_types.specs.Value.{Value}
-use Rattle.col_build.specs.Encoding.{Fits, narrow_limit}
+use Rattle.data_types.specs.promise.Value.{Value}
+use Rattle.col_build.specs.promise.Encoding.{narrow_limit}
+use Rattle.col_build.specs.Encoding.{Fits}
 use Rattle.col_build.specs.Holding.{Holds}
 use Rattle.run_ends.specs.declared.encoder.Making.{Making}
-use Rattle.run_ends.specs.RunCoding.{Run, runs_from, end_kind, end_of, value_of}
+use Rattle.run_ends.specs.promise.RunCoding.{Run, runs_from}
+use Rattle.run_ends.specs.RunCoding.{end_kind, end_of, value_of}
 
 -- they hold these runs, whose values are of this type
 pub record HoldsRuns (making : Making) (kind : DataType) (runs : List Run) : Type 0 where

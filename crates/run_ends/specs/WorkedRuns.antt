@@ -1,11 +1,11 @@
 -- Small run-end encoded arrays with their kinds.
 use Rattle.std.specs.Prelude.{ℕ, ℤ, pos, true, [], ◌∷◌, Option, Some, None}
 use Rattle.data_types.specs.declared.kind.DataType.TheVariants as kinds
-use Rattle.tree_model.specs.Tree.{Live, trees, absent}
-use Rattle.raw_array.specs.Members.{ArrayTree}
+use Rattle.tree_model.specs.promise.TreeData.{Live, trees, absent}
+use Rattle.raw_array.specs.promise.Members.{ArrayTree}
 use Rattle.layout_rules.specs.WorkedArrays.{flat, int32, text, buffer, members, leaf}
-use Rattle.run_ends.specs.Runs.{RunTree}
-use Rattle.run_ends.specs.RunRules.{Rule, RunsFound}
+use Rattle.run_ends.specs.promise.Runs.{RunTree}
+use Rattle.run_ends.specs.promise.RunRules.{Rule, RunsFound}
 
 -- texts behind ends of 32 bits, and of 64
 abbrev pub short_runs : RunTree

@@ -1,17 +1,19 @@
 //! The rules of a run-end encoded array, one after the other.
 ghost use Rattle.std.specs.Prelude.{◌≡◌, ◌↔◌, ◌<◌, ◌≤ℤ◌, nat_lt, int_lt, pos, IsOk, None, OnOk, Option, length};
-ghost use Rattle.tree_model.specs.Tree.{IsLive, child_at, children_of};
-ghost use Rattle.raw_array.specs.Members.{ArrayTree, members_of};
+ghost use Rattle.tree_model.specs.promise.TreeParts.{IsLive, child_at, children_of};
+ghost use Rattle.raw_array.specs.promise.Members.{ArrayTree, members_of};
 ghost use Rattle.data_types.specs.KindTrees.{TypedOk};
-ghost use Rattle.data_types.specs.TypedView.{typed_of};
-ghost use Rattle.layout_rules.specs.Layout.{end};
-ghost use Rattle.layout_rules.specs.Rules.{fault_if};
-ghost use Rattle.layout_rules.specs.Walk.{LayoutOk, first_fault};
-ghost use Rattle.root_check.specs.Children.{at_child};
+ghost use Rattle.data_types.specs.promise.TypedView.{typed_of};
+ghost use Rattle.layout_rules.specs.promise.Layout.{end};
+ghost use Rattle.layout_rules.specs.promise.Rules.{fault_if};
+ghost use Rattle.layout_rules.specs.promise.Walk.{LayoutOk, first_fault};
+ghost use Rattle.root_check.specs.promise.Children.{at_child};
 ghost use Rattle.arr_import.specs.Window.{item_at};
 ghost use Rattle.arr_import.specs.Cols.{window_of};
-ghost use Rattle.run_ends.specs.Runs.{RunTypedOk, IsEnds, ends_in, run_count, value_count};
-ghost use Rattle.run_ends.specs.RunRules.{child_rule, kids_fault, end_answers, first_answer, runs_fault, RunsOk, by};
+ghost use Rattle.run_ends.specs.promise.Runs.{IsEnds, ends_in, run_count, value_count};
+ghost use Rattle.run_ends.specs.Runs.{RunTypedOk};
+ghost use Rattle.run_ends.specs.promise.RunRules.{child_rule, kids_fault, end_answers, first_answer, runs_fault, by};
+ghost use Rattle.run_ends.specs.RunRules.{RunsOk};
 ghost use Rattle.run_ends.specs.RunAnswers.{runs_of, rule_of, found_runs};
 
 use crate::ends::{count, end_before, first_fall, first_null};

@@ -1,10 +1,11 @@
 //! Why a column isn't made into runs, or runs aren't made into a column.
 ghost use Rattle.std.specs.Prelude.{◌≡◌};
 ghost use Rattle.data_types.specs.KindTrees.{TypedOk};
-ghost use Rattle.data_types.specs.TypedView.{typed_of};
-ghost use Rattle.layout_rules.specs.Values.{tree_items};
-ghost use Rattle.layout_rules.specs.Walk.{LayoutOk};
-ghost use Rattle.run_ends.specs.CodeFaults.{code_fault, is_narrow};
+ghost use Rattle.data_types.specs.promise.TypedView.{typed_of};
+ghost use Rattle.layout_rules.specs.promise.Values.{tree_items};
+ghost use Rattle.layout_rules.specs.promise.Walk.{LayoutOk};
+ghost use Rattle.run_ends.specs.promise.CodeFaults.{code_fault};
+ghost use Rattle.run_ends.specs.CodeFaults.{is_narrow};
 
 use crate::ends::count;
 use arr_import::Col;

@@ -1,16 +1,19 @@
 //! Values as runs: what their schema and their array mean. The calls do nothing.
 ghost use Rattle.std.specs.Prelude.{◌≡◌, ◌<◌, ℕ, List, None, length};
 ghost use Rattle.data_types.specs.ColumnForms.{IsColumnKind};
-ghost use Rattle.data_types.specs.Value.{Value};
+ghost use Rattle.data_types.specs.promise.Value.{Value};
 ghost use Rattle.data_types.specs.declared.kind.DataType.{DataType};
-ghost use Rattle.col_build.specs.Encoding.{Fits, narrow_limit};
-ghost use Rattle.run_ends.specs.Runs.{run_values};
+ghost use Rattle.col_build.specs.promise.Encoding.{narrow_limit};
+ghost use Rattle.col_build.specs.Encoding.{Fits};
+ghost use Rattle.run_ends.specs.promise.Runs.{run_values};
 ghost use Rattle.run_ends.specs.RunRules.{RunsOk};
-ghost use Rattle.arr_export.specs.ArrayTrees.{column_tree, flat_type};
-ghost use Rattle.layout_rules.specs.Values.{values_of};
+ghost use Rattle.arr_export.specs.promise.ArrayTrees.{column_tree};
+ghost use Rattle.arr_export.specs.ArrayTrees.{flat_type};
+ghost use Rattle.layout_rules.specs.promise.Values.{values_of};
 ghost use Rattle.run_ends.specs.CodeFaults.{decode_fault};
-ghost use Rattle.run_ends.specs.RunCoding.{AreApart, decoded_tree, runs_from, runs_schema, runs_tree, runs_type};
-ghost use Rattle.run_ends.specs.RunSchemas.{RunsOf};
+ghost use Rattle.run_ends.specs.promise.RunCoding.{runs_from};
+ghost use Rattle.run_ends.specs.RunCoding.{AreApart, decoded_tree, runs_schema, runs_tree, runs_type};
+ghost use Rattle.run_ends.specs.promise.RunSchemas.{RunsOf};
 
 /// A law: the schema of values as runs is in order and has their kinds, their array is lawful and has these values, and no two runs
 /// that are side by side have the same one ("Arrow Columnar Format", "Run-End Encoded Layout").

@@ -1,14 +1,14 @@
 //! The items of a run-end encoded array, read in place.
 ghost use Rattle.std.specs.Prelude.{◌≡◌, IsTrue, is_none};
-ghost use Rattle.tree_model.specs.Tree.{child_at};
-ghost use Rattle.raw_array.specs.Members.{members_of};
-ghost use Rattle.data_types.specs.TypedView.{typed_of};
-ghost use Rattle.layout_rules.specs.Layout.{first, items};
+ghost use Rattle.tree_model.specs.promise.TreeParts.{child_at};
+ghost use Rattle.raw_array.specs.promise.Members.{members_of};
+ghost use Rattle.data_types.specs.promise.TypedView.{typed_of};
+ghost use Rattle.layout_rules.specs.promise.Layout.{first, items};
 ghost use Rattle.arr_import.specs.Window.{whole};
 ghost use Rattle.arr_import.specs.Cols.{window_of};
-ghost use Rattle.layout_rules.specs.Rules.{window_limit};
+ghost use Rattle.layout_rules.specs.promise.Rules.{window_limit};
 ghost use Rattle.run_ends.specs.WindowProps.{window_prop};
-ghost use Rattle.run_ends.specs.RunRules.{runs_fault};
+ghost use Rattle.run_ends.specs.promise.RunRules.{runs_fault};
 ghost use Rattle.run_ends.specs.RunAnswers.{runs_of};
 
 use crate::ends::{count, ends_above, run_end};
@@ -38,9 +38,10 @@ pub struct RunCol<'a> {
 
 impl<'a> RunCol<'a> {
     ghost use Rattle.std.specs.Prelude.{ℕ, ◌+◌, ◌<◌, ◌≤◌, ◌≤ℤ◌, ◌<ℤ◌, pos};
-    ghost use Rattle.layout_rules.specs.Layout.{natural};
+    ghost use Rattle.layout_rules.specs.promise.Layout.{natural};
     ghost use Rattle.arr_import.specs.Shown.{Shows};
-    ghost use Rattle.run_ends.specs.Runs.{RunTypedOk, run_at, run_count, ends_in, ends_above, run_end, run_of, run_value};
+    ghost use Rattle.run_ends.specs.promise.Runs.{run_at, run_count, ends_in, ends_above, run_end, run_of, run_value};
+    ghost use Rattle.run_ends.specs.Runs.{RunTypedOk};
     ghost use Rattle.run_ends.specs.RunHolds.{Parted};
     ghost use Rattle.run_ends.specs.RunRules.{RunsOk};
     ghost use Rattle.run_ends.specs.RunCols.{kinds_in, array_in};

@@ -1,11 +1,11 @@
 //! The runs of a column's values: items that are side by side and have the same value.
 ghost use Rattle.std.specs.Prelude.{◌≡◌, ◌↔◌, IsTrue, is_none, true};
-ghost use Rattle.tree_model.specs.Tree.{child_at};
-ghost use Rattle.data_types.specs.TypedView.{typed_of};
-ghost use Rattle.layout_rules.specs.Walk.{first_fault};
+ghost use Rattle.tree_model.specs.promise.TreeParts.{child_at};
+ghost use Rattle.data_types.specs.promise.TypedView.{typed_of};
+ghost use Rattle.layout_rules.specs.promise.Walk.{first_fault};
 ghost use Rattle.arr_import.specs.Window.{whole};
 ghost use Rattle.arr_import.specs.Cols.{window_of};
-ghost use Rattle.layout_rules.specs.Rules.{window_limit};
+ghost use Rattle.layout_rules.specs.promise.Rules.{window_limit};
 ghost use Rattle.run_ends.specs.WindowProps.{window_prop};
 
 use crate::ends::count;
@@ -27,12 +27,13 @@ pub struct ColumnRuns<'a> {
 
 impl<'a> ColumnRuns<'a> {
     ghost use Rattle.std.specs.Prelude.{ℕ, ◌+◌, ◌<◌, ◌≤◌, ◌≤ℤ◌, ◌<ℤ◌, pos, length, get_or};
-    ghost use Rattle.data_types.specs.Value.Value.{Null};
+    ghost use Rattle.data_types.specs.promise.Value.Value.{Null};
     ghost use Rattle.data_types.specs.KindTrees.{TypedOk};
-    ghost use Rattle.layout_rules.specs.Layout.{natural};
-    ghost use Rattle.layout_rules.specs.Values.{values_of};
-    ghost use Rattle.layout_rules.specs.Walk.{LayoutOk};
-    ghost use Rattle.run_ends.specs.RunCoding.{is_same, IsRun};
+    ghost use Rattle.layout_rules.specs.promise.Layout.{natural};
+    ghost use Rattle.layout_rules.specs.promise.Values.{values_of};
+    ghost use Rattle.layout_rules.specs.promise.Walk.{LayoutOk};
+    ghost use Rattle.run_ends.specs.promise.RunCoding.{is_same};
+    ghost use Rattle.run_ends.specs.RunCoding.{IsRun};
     ghost use Rattle.run_ends.specs.ColumnRuns.{values_in};
 
     /// All items of an array that `layout_check::check_array` accepted.

@@ -1,11 +1,11 @@
 //! Laws of the answers on schemas, and of arrays at which no rule fails. The calls do nothing.
 ghost use Rattle.std.specs.Prelude.{◌≡◌, Result, IsTrue, is_none};
-ghost use Rattle.raw_schema.specs.Members.{SchemaTree};
-ghost use Rattle.run_ends.specs.Runs.{RunTree};
-ghost use Rattle.run_ends.specs.RunRules.{runs_fault};
+ghost use Rattle.raw_schema.specs.promise.Members.{SchemaTree};
+ghost use Rattle.run_ends.specs.promise.Runs.{RunTree};
+ghost use Rattle.run_ends.specs.promise.RunRules.{runs_fault};
 ghost use Rattle.run_ends.specs.RunHolds.{RunsHold};
 ghost use Rattle.run_ends.specs.RunAnswers.{runs_of};
-ghost use Rattle.run_ends.specs.RunSchemas.{SchemaFound, RunsReads};
+ghost use Rattle.run_ends.specs.promise.RunSchemas.{SchemaFound, RunsReads};
 
 use crate::kinds::RunTyped;
 use raw_array::RawArray;

@@ -1,13 +1,14 @@
 //! The kinds of the schema of a run-end encoded array.
 ghost use Rattle.std.specs.Prelude.{◌≡◌, ◌↔◌, ◌∷◌, [], IsTrue, IfOk, IfErr, Result, codes, length, map, All};
 ghost use Rattle.std.specs.List.{AllZip};
-ghost use Rattle.raw_schema.specs.Members.{SchemaTree};
-ghost use Rattle.tree_model.specs.Tree.{IsLive, children_of};
+ghost use Rattle.raw_schema.specs.promise.Members.{SchemaTree};
+ghost use Rattle.tree_model.specs.promise.TreeParts.{IsLive, children_of};
 ghost use Rattle.data_types.specs.KindTrees.{TypedOk};
-ghost use Rattle.data_types.specs.TypedView.{typed_of};
-ghost use Rattle.schema_check.specs.Schemas.{TypedOf};
-ghost use Rattle.run_ends.specs.Runs.{RunTree, RunTypedOk, IsEnds};
-ghost use Rattle.run_ends.specs.RunSchemas.{ArePlainRuns, RunsOf, SchemaFound, RunsReads};
+ghost use Rattle.data_types.specs.promise.TypedView.{typed_of};
+ghost use Rattle.schema_check.specs.promise.Schemas.{TypedOf};
+ghost use Rattle.run_ends.specs.promise.Runs.{RunTree, IsEnds};
+ghost use Rattle.run_ends.specs.Runs.{RunTypedOk};
+ghost use Rattle.run_ends.specs.promise.RunSchemas.{ArePlainRuns, RunsOf, SchemaFound, RunsReads};
 ghost use Rattle.run_ends.specs.RunAnswers.{runs_of, IsRunsFault, GivesRuns};
 
 use crate::kinds::RunTyped;

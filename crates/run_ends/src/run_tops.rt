@@ -1,14 +1,15 @@
 //! The schema and the array of runs, over those of their ends and their values.
 ghost use Rattle.std.specs.Prelude.{◌≡◌, ◌+◌, ◌-◌, ◌^◌, ◌<◌, ◌≤◌, ◌∷◌, [], List, codes, pos, length, map, None, Some, IfOk, OnOk, MatchResult, if◌then◌else◌, is_ok};
-ghost use Rattle.unit_pass.specs.Tally.{risen};
+ghost use Rattle.unit_pass.specs.promise.Tally.{risen};
 ghost use Rattle.data_types.specs.Kinds.{KindOk};
 ghost use Rattle.data_types.specs.declared.kind.DataType.{DataType as AType};
 ghost use Rattle.tree_model.specs.Tree.{Depth};
-ghost use Rattle.schema_check.specs.ColumnSchema.{values_schema};
-ghost use Rattle.raw_schema.specs.Members.{Nodes};
-ghost use Rattle.raw_array.specs.Members.{Cost};
-ghost use Rattle.col_build.specs.Finished.{blocks_of};
-ghost use Rattle.run_ends.specs.RunCoding.{Run, end_kind, end_of, ends_schema, over_runs, runs_schema, tree_of_runs, value_of};
+ghost use Rattle.schema_check.specs.promise.ColumnSchema.{values_schema};
+ghost use Rattle.tree_model.specs.promise.TreeCost.{Nodes};
+ghost use Rattle.raw_array.specs.promise.Members.{Cost};
+ghost use Rattle.col_build.specs.promise.Finished.{blocks_of};
+ghost use Rattle.run_ends.specs.promise.RunCoding.{Run};
+ghost use Rattle.run_ends.specs.RunCoding.{end_kind, end_of, ends_schema, over_runs, runs_schema, tree_of_runs, value_of};
 ghost use Rattle.run_ends.specs.RunMaking.{HoldsRuns};
 
 use crate::encoder::Making;

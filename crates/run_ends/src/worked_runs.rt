@@ -1,8 +1,8 @@
 //! Small run-end encoded arrays, computed from the definitions.
 ghost use Rattle.std.specs.Prelude.{◌≡◌, None, [], ◌∷◌, ◌^◌, ◌-◌, ◌+◌, pos, codes};
-ghost use Rattle.data_types.specs.Value.Value.{Bytes};
-ghost use Rattle.run_ends.specs.Runs.{run_values};
-ghost use Rattle.run_ends.specs.RunRules.{runs_fault, EndsNull, EndsFall, ValuesShort, EndsShort, WindowTooLong};
+ghost use Rattle.data_types.specs.promise.Value.Value.{Bytes};
+ghost use Rattle.run_ends.specs.promise.Runs.{run_values};
+ghost use Rattle.run_ends.specs.promise.RunRules.{runs_fault, EndsNull, EndsFall, ValuesShort, EndsShort, WindowTooLong};
 ghost use Rattle.run_ends.specs.WorkedRuns.{short_runs, long_runs, over_two, two_ends, null_second, last_ends, far_end, two_texts, one_text, no_ends, no_texts, found};
 
 /// What the definitions say of small run-end encoded arrays: their values, and the first fault ("Arrow Columnar Format", "Run-End

@@ -3,10 +3,10 @@ use Rattle.std.proofs.Common.{◌≡◌, ◌∙◌, ◌<◌, ◌≤◌, ◌+◌,
 use Rattle.std.proofs.Common.{append_assoc}
 use Rattle.std.proofs.Common.{append-nil, inl, inr}
 use Rattle.std.proofs.lemmas.List.{drop_all, drop_more, length-append}
-use Rattle.stage_model.specs.StageGrammar.{stage_of}
+use Rattle.stage_model.specs.promise.StageGrammar.{stage_of}
 use Rattle.stage_model.specs.declared.fault.StageFault.{StageFault}
 use Rattle.stage_model.specs.declared.stage.StageText.{StageText}
-use Rattle.run_model.specs.Answer.{stage_before, stages_from}
+use Rattle.run_model.specs.promise.Answer.{stage_before, stages_from}
 use Rattle.run_model.specs.declared.fault.RunFault.{RunFault}
 use Rattle.run_model.specs.declared.fault.RunFault.TheVariants as run
 

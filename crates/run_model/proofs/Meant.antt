@@ -1,7 +1,7 @@
 -- What the options that are meant ask for, the words ask for: those of the chain where rows are made in place of an input.
 use Rattle.std.proofs.Common.{◌≡◌, ◌⊎◌, ℕ, Bool, false, Option, Result, subst, sym, inl, inr}
-use Rattle.run_model.specs.Words.{Options}
-use Rattle.run_model.specs.Answer.{Task, TaskIs, meant_by}
+use Rattle.run_model.specs.promise.Words.{Options}
+use Rattle.run_model.specs.promise.Answer.{Task, TaskIs, meant_by}
 use Rattle.run_model.specs.declared.fault.RunFault.{RunFault}
 
 pub meant-only : {X : Type 0} (check : Bool) (rows : Option ℕ) (options meant : Options) (asked : Result Task RunFault) → check ≡ false

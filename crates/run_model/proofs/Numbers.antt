@@ -8,7 +8,7 @@ use Rattle.std.specs.Str.{all_ascii_digits}
 use Rattle.std.specs.Str.Parse.{ParsesUnsigned, digits_value}
 use Rattle.std.proofs.lemmas.Bool.{and_parts, le-leb, leb-true}
 use Rattle.std.proofs.lemmas.Str.Parse.{IsNumeralModel, numerals_by_value, parse_plain, tells_all_ascii_digits}
-use Rattle.run_model.specs.Words.{begins_number, number_between}
+use Rattle.run_model.specs.promise.Words.{begins_number, number_between}
 
 some : (text : List ℕ) → begins_number text ≡ true → 0 < length text
 some [] e = cc

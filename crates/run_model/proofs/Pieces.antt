@@ -10,8 +10,9 @@ use Rattle.std.specs.Io.KnownBytes.{Appends}
 use Rattle.std.specs.List.{concat}
 use Rattle.std.specs.Result.{IsErr}
 use Rattle.edge_io.specs.declared.edge.WriteFault.{WriteFault}
-use Rattle.edge_io.specs.Edge.{Rose}
-use Rattle.run_model.specs.Diagnostics.{Says, TookFirst, joined}
+use Rattle.edge_io.specs.promise.Edge.{Rose}
+use Rattle.run_model.specs.promise.Diagnostics.{TookFirst}
+use Rattle.run_model.specs.Diagnostics.{Says, joined}
 
 joined-append : (xs ys : List (Bor (List ℕ))) → joined (xs ++ ys) ≡ joined xs ++ joined ys
 joined-append [] ys = refl

@@ -9,8 +9,9 @@ use Rattle.clap.proofs.WalkLemmas.{first_value-rows, raw_values-rows}
 use Rattle.run_model.specs.declared.words.WordsFault.TheVariants.{Refused}
 use Rattle.run_model.specs.declared.words.WordsError.{WordsError}
 use Rattle.run_model.specs.declared.words.WordsError.TheVariants as error
-use Rattle.run_model.specs.Words.{Explains, Options, ahead_if, asks_audit, batch_if, choice_if, flag_in, given_in, number_if}
-use Rattle.run_model.specs.Words.{options_if, options_with, rows_if, ruled, texts_in, with_numbers, workers_if}
+use Rattle.run_model.specs.promise.Words.{Options, ahead_if, asks_audit, batch_if, choice_if, flag_in, given_in, number_if}
+use Rattle.run_model.specs.Words.{Explains}
+use Rattle.run_model.specs.promise.Words.{options_if, options_with, rows_if, ruled, texts_in, with_numbers, workers_if}
 
 -- the text that `get_str` gave
 pub given_text : (f : Found) (id : Text) (o : Option (Bor Text)) → option_map (λ s. s.now) o ≡ first_value f id

@@ -4,7 +4,8 @@ use Rattle.clap.specs.Words.{App, FailsBy, HasMatchesOf, Text, fault_of, found_o
 use Rattle.clap.specs.declared.error.Error.{Error}
 use Rattle.clap.specs.declared.error.kind.ErrorKind.TheVariants.{OutOfMemory}
 use Rattle.clap.specs.declared.parser.matches.ArgMatches.{ArgMatches}
-use Rattle.run_model.specs.Words.{ErrorOf, Explains, Options, arrowpipe, given_in, options_if, options_of, ruled, taken_of}
+use Rattle.run_model.specs.promise.Words.{Options, arrowpipe, given_in, options_if, ruled, taken_of}
+use Rattle.run_model.specs.Words.{ErrorOf, Explains, options_of}
 use Rattle.run_model.specs.declared.words.Words.{Words}
 use Rattle.run_model.specs.declared.words.WordsFault.{WordsFault}
 use Rattle.run_model.specs.declared.words.WordsError.{WordsError}

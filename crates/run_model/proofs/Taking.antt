@@ -24,7 +24,7 @@ use Rattle.clap.specs.Takes.{level_passes, takes}
 use Rattle.clap.specs.Faults.{fault_of, level_fault}
 use Rattle.clap.proofs.FaultLemmas.{leaf_fault}
 use Rattle.clap.proofs.TakesLemmas.{leaf_takes}
-use Rattle.run_model.specs.Words.{arrowpipe}
+use Rattle.run_model.specs.promise.Words.{arrowpipe}
 use Rattle.clap.specs.declared.builder.action.ArgAction.{ArgAction}
 use Rattle.clap.specs.declared.builder.action.ArgAction.TheVariants as action
 use Rattle.clap.specs.declared.error.kind.ErrorKind.{ErrorKind}

@@ -2,7 +2,7 @@
 use Rattle.std.proofs.Common.{◌≡◌, true, false, refl, codes, replicate, List, [], ◌∷◌, Some, None, Ok, Err}
 use Rattle.clap.specs.Words.{Text}
 use Rattle.clap.proofs.OnLiterals.{clap_on_literals}
-use Rattle.run_model.specs.Words.{Options, made_of, taken_of, words_of}
+use Rattle.run_model.specs.promise.Words.{Options, made_of, taken_of, words_of}
 use Rattle.run_model.specs.declared.words.WordsFault.TheVariants.{Refused, TooManyStages, UsedWithCheck, UsedWithSelftest}
 
 -- ---- the schema, and the audit

@@ -1,9 +1,8 @@
+pub mod promise
 pub mod Answer
 pub mod Outcomes
 pub mod Diagnostics
 pub mod NumberedTexts
-pub mod MemoryFaults
 pub mod Words
 pub mod FaultTexts
 pub mod RunAnswer
-pub mod RunOutcomes

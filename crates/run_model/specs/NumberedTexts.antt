@@ -1,6 +1,6 @@
 -- What is written of a fault: a text with at most two numbers in it, or the fault of a tree.
 use Rattle.std.specs.Prelude.{ℕ, ◌++◌, List, [], Option, None, Some, decimal}
-use Rattle.tree_check.specs.FaultTexts.{tree_fault_text}
+use Rattle.tree_check.specs.promise.FaultTexts.{tree_fault_text}
 use Rattle.run_model.specs.declared.fault_text.NumberedText.{NumberedText}
 use Rattle.run_model.specs.declared.fault_text.Told.{Told}
 use Rattle.run_model.specs.declared.fault_text.Told.TheVariants as told

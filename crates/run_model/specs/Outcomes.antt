@@ -1,53 +1,12 @@
 -- What a fault's cause says of it, and what the program has read of the words.
-use Rattle.std.specs.Prelude.{ℕ, Bool, true, false, List, Option, None, Some, Result, Ok, Err, Vec, ⊤}
+use Rattle.std.specs.Prelude.{List, Option, None, Some, Result, Ok, Err, Vec, ⊤}
 use Rattle.std.specs.Global.{Global}
 use Rattle.stage_plan.specs.declared.types.TypeEntry.{TypeEntry}
-use Rattle.run_model.specs.Answer.{Request, Task, Table, Tree, Cause, OfWords, OfTexts, OfPlan}
-use Rattle.run_model.specs.Answer.{OfRecords, OfTree, OfLength, Reading, Writing, Memory, cause_of}
+use Rattle.run_model.specs.promise.Answer.{Request, Task, Table, Tree}
 use Rattle.run_model.specs.declared.request.Request.{Request as AsksFor}
 use Rattle.run_model.specs.declared.asked.Task.{Task as AsksTask}
 use Rattle.run_model.specs.declared.asked.Task.TheVariants as tasks
 use Rattle.run_model.specs.declared.fault.RunFault.{RunFault}
-
--- the words and the bytes of the input decide a fault of this cause
-abbrev pub decides : Cause → Bool
-decides OfWords = true
-decides OfTexts = true
-decides OfPlan = true
-decides OfRecords = true
-decides OfTree = true
-decides OfLength = true
-decides Reading = false
-decides (Writing taken) = false
-decides Memory = false
-
-abbrev pub is_decided : RunFault → Bool
-is_decided fault = decides (cause_of fault)
-
--- the words alone decide it
-abbrev pub decides_early : Cause → Bool
-decides_early OfWords = true
-decides_early OfTexts = true
-decides_early _ = false
-
-abbrev pub is_early : RunFault → Bool
-is_early fault = decides_early (cause_of fault)
-
--- it is a failed write
-abbrev pub is_writing : Cause → Bool
-is_writing (Writing taken) = true
-is_writing _ = false
-
-abbrev pub is_write_fault : RunFault → Bool
-is_write_fault fault = is_writing (cause_of fault)
-
--- this many bytes were taken before a write failed
-abbrev pub AtWriting : Cause → (ℕ → Type 0) → Type 0
-AtWriting (Writing taken) P = P taken
-AtWriting _ P = ⊤
-
-abbrev pub AtWriteFault : RunFault → (ℕ → Type 0) → Type 0
-AtWriteFault fault P = AtWriting (cause_of fault) P
 
 -- what the program has read, as the definitions see it
 abbrev pub entries_asked : Result (Vec TypeEntry Global) RunFault → Result (List TypeEntry) RunFault

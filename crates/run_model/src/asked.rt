@@ -1,15 +1,17 @@
 //! What the words ask for.
 ghost use Rattle.std.specs.Prelude.{◌≡◌, ◌≤◌, ◌⊎◌, ◌∷◌, true, false, [], ℕ, List, Result, All, Ok, Err, IfErr, IfOk, IfSome, None, length, map, option_map, vec_len};
 ghost use Rattle.std.specs.Option.{unwrap_or};
-ghost use Rattle.fan_out.specs.Counts.{most_workers};
+ghost use Rattle.fan_out.specs.promise.Counts.{most_workers};
 ghost use Rattle.field_codec.specs.TextColumns.{IsAllowed};
 ghost use Rattle.data_types.specs.Kinds.{KindOk};
-ghost use Rattle.stage_plan.specs.PlanWords.{most_stages};
+ghost use Rattle.stage_plan.specs.promise.PlanWords.{most_stages};
 ghost use Rattle.stage_plan.specs.declared.types.TypeEntry.{TypeEntry as AnEntry};
-ghost use Rattle.run_model.specs.Words.{audit_of, made_of, most_ahead, most_batch, most_rows, options_of, texts_of, words_of};
-ghost use Rattle.run_model.specs.Answer.{Asks, EntriesAsk, Request as ARequest, RequestIs, StagesAsk, Task as ATask, TaskIs, chain_of, meant_by};
-ghost use Rattle.run_model.specs.Answer.{stages_from};
-ghost use Rattle.run_model.specs.Outcomes.{IfTable, asked_of, entries_asked, is_early, request_asked};
+ghost use Rattle.run_model.specs.promise.Words.{audit_of, made_of, most_ahead, most_batch, most_rows, texts_of, words_of};
+ghost use Rattle.run_model.specs.Words.{options_of};
+ghost use Rattle.run_model.specs.promise.Answer.{Asks, EntriesAsk, Request as ARequest, RequestIs, StagesAsk, Task as ATask, TaskIs, chain_of, meant_by};
+ghost use Rattle.run_model.specs.promise.Answer.{stages_from};
+ghost use Rattle.run_model.specs.promise.Outcomes.{is_early};
+ghost use Rattle.run_model.specs.Outcomes.{IfTable, asked_of, entries_asked, request_asked};
 ghost use Rattle.run_model.specs.declared.fault.RunFault.{RunFault as AFault};
 
 use crate::fault::RunFault;

@@ -1,7 +1,8 @@
 //! What is written of the fault and of the audit. No line takes memory.
 ghost use Rattle.std.specs.Prelude.{◌++◌};
 ghost use Rattle.run_model.specs.NumberedTexts.{numbered_text};
-ghost use Rattle.run_model.specs.Diagnostics.{Says, audit_if, audit_line, fault_line, fault_text, joined, line_of};
+ghost use Rattle.run_model.specs.promise.Diagnostics.{audit_if, audit_line, fault_line, fault_text, line_of};
+ghost use Rattle.run_model.specs.Diagnostics.{Says, joined};
 
 use crate::fault::RunFault;
 use crate::fault_text::{NumberedText, Told, digits, message_of};

@@ -56,7 +56,7 @@ impl From<NoMemory> for RunFault {
 
 impl From<HeaderFault> for RunFault {
     ghost use Rattle.std.specs.Prelude.{◌≡◌};
-    ghost use Rattle.run_model.specs.Answer.{fault_of_header};
+    ghost use Rattle.run_model.specs.promise.Answer.{fault_of_header};
 
     ghost from_gives = { λ fault given. given ≡ fault_of_header fault };
 
@@ -74,7 +74,7 @@ impl From<HeaderFault> for RunFault {
 
 impl From<PlanFault> for RunFault {
     ghost use Rattle.std.specs.Prelude.{◌≡◌};
-    ghost use Rattle.run_model.specs.Answer.{fault_of_plan};
+    ghost use Rattle.run_model.specs.promise.Answer.{fault_of_plan};
 
     ghost from_gives = { λ fault given. given ≡ fault_of_plan fault };
 

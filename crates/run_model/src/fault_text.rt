@@ -1,6 +1,6 @@
 //! The text of a fault of a run, of which its line on the sink of diagnostics and its `Display` are made.
 ghost use Rattle.std.specs.Prelude.{◌≡◌, ◌++◌, codes, decimal};
-ghost use Rattle.run_model.specs.Diagnostics.{fault_text};
+ghost use Rattle.run_model.specs.promise.Diagnostics.{fault_text};
 ghost use Rattle.run_model.specs.NumberedTexts.{digits_of, numbered_text, message_text};
 
 use crate::WordsFault;
@@ -154,7 +154,7 @@ impl fmt::Display for NumberedText {
 
 impl fmt::Display for RunFault {
     ghost use Rattle.std.specs.Prelude.{Some};
-    ghost use Rattle.run_model.specs.Diagnostics.{fault_text};
+    ghost use Rattle.run_model.specs.promise.Diagnostics.{fault_text};
 
     ghost output = { λ fault. Some (fault_text fault) };
 

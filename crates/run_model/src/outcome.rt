@@ -1,6 +1,6 @@
 //! The outcome of a run: its fault, its exit status and its audit.
 ghost use Rattle.std.specs.Prelude.{◌≡◌, Some};
-ghost use Rattle.run_model.specs.Answer.{status_of};
+ghost use Rattle.run_model.specs.promise.Answer.{status_of};
 ghost use Rattle.run_model.specs.Outcomes.{fault_in};
 
 use crate::fault::RunFault;

@@ -1,8 +1,8 @@
 //! What the words ask for of a table.
 ghost use Rattle.std.specs.Prelude.{◌≤◌, vec_len, IfSome};
 ghost use Rattle.std.proofs.Props.{props};
-ghost use Rattle.stage_plan.specs.PlanWords.{most_stages};
-ghost use Rattle.run_model.specs.Words.{most_ahead, most_batch};
+ghost use Rattle.stage_plan.specs.promise.PlanWords.{most_stages};
+ghost use Rattle.run_model.specs.promise.Words.{most_ahead, most_batch};
 
 use fan_out::Workers;
 use stage_plan::{StageText, TypeEntry};

@@ -1,13 +1,14 @@
 //! The line of the fault of a tree. The way to a node may be long, so the line is written piece by piece and takes no memory.
 ghost use Rattle.std.specs.Prelude.{◌++◌, codes, decimal, flat_map};
 ghost use Rattle.std.specs.Fmt.{signed_decimal};
-ghost use Rattle.schema_check.specs.FaultTexts.{schema_rule_text};
-ghost use Rattle.data_types.specs.WayTexts.{step_text, way_text};
-ghost use Rattle.layout_rules.specs.FaultTexts.{layout_fault_text, rule_text};
-ghost use Rattle.data_types.specs.Ways.{steps_of};
-ghost use Rattle.tree_check.specs.FaultTexts.{tree_fault_text};
-ghost use Rattle.tree_text.specs.FaultTexts.{text_fault_text};
-ghost use Rattle.run_model.specs.Diagnostics.{Says, line_of};
+ghost use Rattle.schema_check.specs.promise.FaultTexts.{schema_rule_text};
+ghost use Rattle.data_types.specs.promise.WayTexts.{step_text, way_text};
+ghost use Rattle.layout_rules.specs.promise.FaultTexts.{layout_fault_text, rule_text};
+ghost use Rattle.data_types.specs.promise.Ways.{steps_of};
+ghost use Rattle.tree_check.specs.promise.FaultTexts.{tree_fault_text};
+ghost use Rattle.tree_text.specs.promise.FaultTexts.{text_fault_text};
+ghost use Rattle.run_model.specs.promise.Diagnostics.{line_of};
+ghost use Rattle.run_model.specs.Diagnostics.{Says};
 
 use crate::diagnostics::say;
 use data_types::{DICTIONARY_STEP, Path};

@@ -11,11 +11,13 @@
 //! text of a schema or of a stage means is left to `stage_plan`. Words are strings, so one that isn't UTF-8 never comes here.
 ghost use Rattle.std.specs.Prelude.{◌≡◌, ◌≤◌, false, [], length, map, option_map, None, Some, Ok, IfOk, IfErr, IfSome};
 ghost use Rattle.clap.specs.Words.{rule_of, app_of, found_of, rows_of};
-ghost use Rattle.fan_out.specs.Counts.{most_workers};
-ghost use Rattle.stage_plan.specs.PlanWords.{most_stages};
-ghost use Rattle.run_model.specs.Words.{bare_command, flag_rule, text_rule, words_rule, ErrorOf, Explains, arrowpipe, flag_in, given_in};
-ghost use Rattle.run_model.specs.Words.{begins_number, asks_of_table, choice_if, number_between, number_if, options_if, options_of, ruled};
-ghost use Rattle.run_model.specs.Words.{most_ahead, most_batch, most_rows, taken_of, texts_in, texts_of, words_of};
+ghost use Rattle.fan_out.specs.promise.Counts.{most_workers};
+ghost use Rattle.stage_plan.specs.promise.PlanWords.{most_stages};
+ghost use Rattle.run_model.specs.promise.Words.{bare_command, flag_rule, text_rule, words_rule, arrowpipe, flag_in, given_in};
+ghost use Rattle.run_model.specs.Words.{ErrorOf, Explains};
+ghost use Rattle.run_model.specs.promise.Words.{begins_number, asks_of_table, choice_if, number_between, number_if, options_if, ruled};
+ghost use Rattle.run_model.specs.Words.{options_of};
+ghost use Rattle.run_model.specs.promise.Words.{most_ahead, most_batch, most_rows, taken_of, texts_in, texts_of, words_of};
 ghost use Rattle.run_model.specs.declared.words.WordsError.TheVariants as error;
 ghost use Rattle.run_model.specs.declared.words.WordsFault.TheVariants.{Refused};
 
@@ -94,7 +96,7 @@ pub enum WordsError {
 
 impl fmt::Display for WordsFault {
     ghost use Rattle.std.specs.Prelude.{Some};
-    ghost use Rattle.run_model.specs.FaultTexts.{fault_text};
+    ghost use Rattle.run_model.specs.promise.FaultTexts.{fault_text};
 
     ghost output = { λ fault. Some (fault_text fault) };
 

@@ -12,7 +12,7 @@ use Rattle.col_build.specs.declared.builder.Builder.{Builder}
 use Rattle.column_fill.specs.Tables.{FitsRows, HasDictionary, index_type}
 use Rattle.data_types.specs.FaultTexts.{row_fault_text}
 use Rattle.data_types.specs.FieldText.{IsValueOf}
-use Rattle.data_types.specs.Value.{Value, Bytes, Null}
+use Rattle.data_types.specs.promise.Value.{Value, Bytes, Null}
 use Rattle.data_types.specs.declared.kind.DataType.{DataType}
 use Rattle.run_tests.specs.Own.{entries, k_values, long, n_values, numbers, own_record, own_values, places, text, whole, x, y}
 

@@ -1,13 +1,15 @@
 -- What the example's calls answer and count.
 use Rattle.std.proofs.Common.{◌≡◌, ◌≢◌, ◌∙◌, ℤ, pos, Bool, true, false, Option, None, Some, Result, Err, refl, subst, sym, arith}
 use Rattle.std.proofs.lemmas.Bool.{false≢true}
-use Rattle.raw_array.specs.Members.{ArrayTree}
+use Rattle.raw_array.specs.promise.Members.{ArrayTree}
 use Rattle.stream_face.proofs.Producers.{counts-nothing, given-answers, not-released, row-answers, wanting-answers}
 use Rattle.stream_face.specs.Calls.{Answers, Counts}
 use Rattle.stream_face.specs.Codes.{enomem}
 use Rattle.stream_face.specs.Lawful.{IsChunkOf, IsTable, LawfulTables}
-use Rattle.tree_model.specs.Tree.{IsLive, Released}
-use Rattle.unit_pass.specs.Tally.{Tally, risen}
+use Rattle.tree_model.specs.promise.TreeParts.{IsLive}
+use Rattle.tree_model.specs.promise.TreeData.{Released}
+use Rattle.unit_pass.specs.promise.Tally.{risen}
+use Rattle.unit_pass.specs.Tally.{Tally}
 use Rattle.run_tests.specs.Own.{IsNext, IsWhy, ahead_unless, due_unless, own_chunk, own_columns, own_rows, own_stream, refusal_of}
 use Rattle.run_tests.specs.declared.refused.Refused.{Refused}
 use Rattle.run_tests.specs.declared.refused.Refused.TheVariants as refused

@@ -1,16 +1,16 @@
 -- What the example's stream means: one chunk of a dictionary column k of texts and a column n of whole numbers, and then its end or a
 -- record at fault.
 use Rattle.std.specs.Prelude.{◌≡◌, ℕ, pos, Bool, true, false, not, List, [], ◌∷◌, Option, None, Some, codes}
-use Rattle.arr_export.specs.ValueColumns.{TypedValues, ValueColumn}
+use Rattle.arr_export.specs.promise.ValueColumns.{TypedValues, ValueColumn}
 use Rattle.column_fill.specs.Tables.{NamedValues, chunk_with, index_type}
-use Rattle.data_types.specs.Table.{Column, Row, Dict, Flat}
-use Rattle.data_types.specs.Value.{Value, Bytes, Whole}
+use Rattle.data_types.specs.promise.Table.{Column, Row, Dict, Flat}
+use Rattle.data_types.specs.promise.Value.{Value, Bytes, Whole}
 use Rattle.data_types.specs.declared.kind.DataType.{DataType}
 use Rattle.data_types.specs.declared.kind.DataType.TheVariants as kinds
 use Rattle.data_types.specs.declared.row_fault.RowFault.{RowFault}
 use Rattle.data_types.specs.declared.row_fault.RowFault.TheVariants as rows
-use Rattle.raw_array.specs.Members.{ArrayTree}
-use Rattle.tree_model.specs.Tree.{Released}
+use Rattle.raw_array.specs.promise.Members.{ArrayTree}
+use Rattle.tree_model.specs.promise.TreeData.{Released}
 use Rattle.stream_face.specs.Streams.{Stream, Traffic}
 use Rattle.stream_face.specs.Texts.{Refusal, refused_row, wanting}
 use Rattle.run_tests.specs.declared.refused.Refused.{Refused}

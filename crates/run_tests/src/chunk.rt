@@ -3,8 +3,8 @@ ghost use Rattle.std.specs.Prelude.{◌≡◌, ◌≤◌, ◌+◌, IfOk, OnErr, 
 ghost use Rattle.arr_export.specs.ValueColumns.{tree_of};
 ghost use Rattle.col_build.specs.Holding.{Holds};
 ghost use Rattle.run_tests.specs.Own.{entries, k_values, n_values, numbers, own_chunk, places};
-ghost use Rattle.raw_array.specs.Members.{Cost};
-ghost use Rattle.unit_pass.specs.Tally.{risen};
+ghost use Rattle.raw_array.specs.promise.Members.{Cost};
+ghost use Rattle.unit_pass.specs.promise.Tally.{risen};
 ghost use Rattle.unit_pass.specs.declared.pass.TheConstants.{ROOM, SUPPLY};
 
 use arr_export::export_table;

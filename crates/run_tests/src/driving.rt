@@ -1,6 +1,6 @@
 //! What `drive` makes of the stream, by a filter and a plain column.
 ghost use Rattle.std.specs.Prelude.{◌≤◌};
-ghost use Rattle.fan_out.specs.Counts.{most_workers};
+ghost use Rattle.fan_out.specs.promise.Counts.{most_workers};
 
 use crate::own::{OwnStream, own_columns};
 use data_types::RowFault;

@@ -65,9 +65,9 @@ pub(crate) struct OwnStream {
 
 impl OwnStream {
     ghost use Rattle.run_tests.specs.Own.{IsNext, IsWhy, due_unless};
-    ghost use Rattle.raw_array.specs.Members.{Cost};
+    ghost use Rattle.raw_array.specs.promise.Members.{Cost};
     ghost use Rattle.stream_face.specs.Calls.{Counts};
-    ghost use Rattle.tree_model.specs.Tree.{Released};
+    ghost use Rattle.tree_model.specs.promise.TreeData.{Released};
 
     /// The stream before its chunk was given. It ends at a record at fault where `bad`.
     pub(crate) fn new(bad: bool) -> OwnStream

@@ -1,7 +1,7 @@
 //! Structs of columns, copies of them, and the laws of format strings.
 ghost use Rattle.std.specs.Prelude.{◌≡◌, ◌∷◌, [], codes, map, IfSome};
 ghost use Rattle.data_types.specs.ColumnView.{column_of};
-ghost use Rattle.data_types.specs.Table.{Flat};
+ghost use Rattle.data_types.specs.promise.Table.{Flat};
 ghost use Rattle.data_types.specs.declared.kind.DataType.TheVariants as kinds;
 
 use data_types::*;

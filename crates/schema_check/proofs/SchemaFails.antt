@@ -4,19 +4,20 @@ use Rattle.std.specs.Prelude.{codes, Bool, true, false, IsTrue}
 use Rattle.data_types.specs.declared.kind.DataType.{DataType}
 use Rattle.fmt_string.specs.declared.fault.FormatRule.{FormatRule}
 use Rattle.fmt_string.specs.declared.fault.FormatFault.TheVariants as format
-use Rattle.fmt_string.specs.FormatString.{FormatIs, FormatFaultIs}
+use Rattle.fmt_string.specs.promise.FormatString.{FormatIs, FormatFaultIs}
 use Rattle.schema_meta.specs.declared.fault.MetaFault.{MetaFault}
 use Rattle.schema_meta.specs.declared.fault.MetaFault.TheVariants as meta
-use Rattle.schema_meta.specs.Meta.{MetaFaultIs}
-use Rattle.tree_model.specs.Tree.{Tree, Released, Live, Trees, trees, MaybeTree, maybe_tree, absent, present, IsLive, children_of, dictionary_of, tree_list}
-use Rattle.tree_model.specs.Tree.{option_tree}
+use Rattle.schema_meta.specs.promise.Meta.{MetaFaultIs}
+use Rattle.tree_model.specs.promise.TreeData.{Tree, Released, Live, Trees, trees, MaybeTree, maybe_tree, absent, present, tree_list}
+use Rattle.tree_model.specs.promise.TreeParts.{IsLive, children_of, dictionary_of}
+use Rattle.tree_model.specs.promise.TreeData.{option_tree}
 use Rattle.tree_model.proofs.Lists.{trees-tree_list}
-use Rattle.raw_schema.specs.Members.{SchemaMembers, SchemaTree, members_of}
+use Rattle.raw_schema.specs.promise.Members.{SchemaMembers, SchemaTree, members_of}
 use Rattle.schema_check.specs.declared.rule.SchemaRule.{SchemaRule}
 use Rattle.schema_check.specs.declared.rule.SchemaRule.TheVariants as rules
-use Rattle.data_types.specs.KindTrees.{tree_count}
-use Rattle.schema_check.specs.Schemas.{MetaFits, ChildrenFit, IndexFits, IsPairNode, IsPairSchema, MapFits, FailsHere}
-use Rattle.schema_check.specs.SchemaAnswers.{MetaRefused}
+use Rattle.data_types.specs.promise.KindTrees.{tree_count}
+use Rattle.schema_check.specs.promise.Schemas.{MetaFits, ChildrenFit, IndexFits, IsPairNode, IsPairSchema, MapFits, FailsHere}
+use Rattle.schema_check.specs.promise.SchemaAnswers.{MetaRefused}
 
 -- a list of trees has as many of them as the list
 pub tree_count-trees : {A : Type 0} → (ts : List (Tree A)) → tree_count (trees ts) ≡ length ts

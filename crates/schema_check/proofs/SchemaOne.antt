@@ -6,25 +6,27 @@ use Rattle.data_types.specs.declared.kind.DataType.{DataType}
 use Rattle.fmt_string.specs.declared.fault.FormatRule.{FormatRule}
 use Rattle.fmt_string.specs.declared.fault.FormatFault.{FormatFault}
 use Rattle.fmt_string.specs.declared.fault.FormatFault.TheVariants as format
-use Rattle.fmt_string.specs.FormatString.{FormatIs, FormatFaultIs}
+use Rattle.fmt_string.specs.promise.FormatString.{FormatIs, FormatFaultIs}
 use Rattle.fmt_string.specs.Answer.{Reads as FormatReads}
 use Rattle.schema_meta.specs.declared.pair.Pair.{Pair}
 use Rattle.schema_meta.specs.declared.fault.MetaFault.{MetaFault}
 use Rattle.schema_meta.specs.declared.fault.MetaFault.TheVariants as meta
-use Rattle.schema_meta.specs.Meta.{MetaFaultIs, Reads as MetaReads}
-use Rattle.tree_model.specs.Tree.{Released, Live, Trees, no_trees, more_trees, MaybeTree, absent, present}
-use Rattle.raw_schema.specs.Members.{SchemaMembers, SchemaTree}
+use Rattle.schema_meta.specs.promise.Meta.{MetaFaultIs}
+use Rattle.schema_meta.specs.Meta.{Reads as MetaReads}
+use Rattle.tree_model.specs.promise.TreeData.{Released, Live, Trees, no_trees, more_trees, MaybeTree, absent, present}
+use Rattle.raw_schema.specs.promise.Members.{SchemaMembers, SchemaTree}
 use Rattle.schema_check.specs.declared.rule.SchemaRule.{SchemaRule}
 use Rattle.schema_check.specs.declared.rule.SchemaRule.TheVariants as rules
 use Rattle.schema_check.specs.declared.schema.SchemaFault.{SchemaFault}
 use Rattle.schema_check.specs.declared.schema.SchemaFault.TheVariants.{At, NoMemory}
 use Rattle.data_types.specs.declared.typed.Typed.{Typed}
-use Rattle.data_types.specs.KindTrees.{KindTree}
-use Rattle.data_types.specs.TypedView.{typed_of}
-use Rattle.data_types.specs.Ways.{Steps, dictionary_step, steps_of}
-use Rattle.schema_check.specs.Schemas.{MetaFits, ChildrenFit, IndexFits, MapFits, NodeIs, KidsTyped, DictTyped, TypedFrom, TypedOf, FailsHere, FaultFrom}
-use Rattle.schema_check.specs.Schemas.{KidFault, DictFault}
-use Rattle.schema_check.specs.SchemaAnswers.{FirstFault, SchemaReads, Gives, IsFirstFault}
+use Rattle.data_types.specs.promise.KindTrees.{KindTree}
+use Rattle.data_types.specs.promise.TypedView.{typed_of}
+use Rattle.data_types.specs.promise.Ways.{Steps, dictionary_step, steps_of}
+use Rattle.schema_check.specs.promise.Schemas.{MetaFits, ChildrenFit, IndexFits, MapFits, NodeIs, KidsTyped, DictTyped, TypedFrom, TypedOf, FailsHere, FaultFrom}
+use Rattle.schema_check.specs.promise.Schemas.{KidFault, DictFault}
+use Rattle.schema_check.specs.promise.SchemaAnswers.{FirstFault, SchemaReads}
+use Rattle.schema_check.specs.SchemaAnswers.{Gives, IsFirstFault}
 
 abbrev pub FormatLaw : Type 0
 FormatLaw = (text : List ℕ) (first second : Result DataType FormatFault) → FormatReads text first → FormatReads text second → first ≡ second

@@ -4,9 +4,10 @@ use Rattle.std.proofs.Common.{append_assoc, inl, inr, arith}
 use Rattle.std.proofs.lemmas.List.{append-nil, map-append, take_more}
 use Rattle.std.specs.Global.{Box}
 use Rattle.data_types.specs.declared.kind.DataType.{DataType}
-use Rattle.tree_model.specs.Tree.{Released, Live, Trees, trees, maybe_tree, IsLive, children_of, dictionary_of}
+use Rattle.tree_model.specs.promise.TreeData.{Released, Live, Trees, trees, maybe_tree}
+use Rattle.tree_model.specs.promise.TreeParts.{IsLive, children_of, dictionary_of}
 use Rattle.tree_model.proofs.Lists.{trees-tree_list}
-use Rattle.raw_schema.specs.Members.{SchemaTree, members_of}
+use Rattle.raw_schema.specs.promise.Members.{SchemaTree, members_of}
 use Rattle.schema_check.specs.declared.rule.SchemaRule.{SchemaRule}
 use Rattle.schema_check.specs.declared.schema.SchemaFault.{SchemaFault}
 use Rattle.schema_check.specs.declared.schema.SchemaFault.TheVariants.{At, NoMemory}
@@ -14,10 +15,11 @@ use Rattle.data_types.specs.declared.typed.Typed.{Typed}
 use Rattle.data_types.specs.declared.typed.Typed.TheOpen.{Typed-F}
 use Rattle.data_types.specs.declared.typed.Typed.TheViews.{roll-Typed}
 use Rattle.data_types.specs.declared.typed.Typed.TheFolds.{map-Typed, fold-roll-Typed}
-use Rattle.data_types.specs.KindTrees.{KindTree}
-use Rattle.data_types.specs.TypedView.{typed_of, layer, dict_of, dict_in}
-use Rattle.data_types.specs.Ways.{Steps, dictionary_step}
-use Rattle.schema_check.specs.Schemas.{KidsTyped, DictTyped, TypedFrom, FaultFrom, KidFault}
+use Rattle.data_types.specs.promise.KindTrees.{KindTree}
+use Rattle.data_types.specs.promise.TypedView.{typed_of, layer, dict_of}
+use Rattle.data_types.specs.TypedView.{dict_in}
+use Rattle.data_types.specs.promise.Ways.{Steps, dictionary_step}
+use Rattle.schema_check.specs.promise.Schemas.{KidsTyped, DictTyped, TypedFrom, FaultFrom, KidFault}
 use Rattle.schema_check.specs.SchemaAnswers.{NodeOf, FaultHere, FaultBelow, FaultInKids, FaultInDict}
 use Rattle.schema_check.proofs.SchemaFails.{same_dictionary}
 

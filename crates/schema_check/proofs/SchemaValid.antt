@@ -2,13 +2,15 @@
 use Rattle.std.proofs.Common.{◌≡◌, ℕ, ◌+◌, ◌≤◌, List, refl, sym, subst, ◌∙◌, arith}
 use Rattle.data_types.specs.declared.kind.DataType.{DataType}
 use Rattle.data_types.specs.declared.kind.DataType.TheVariants as kinds
-use Rattle.fmt_string.specs.FormatString.{FormatIs}
+use Rattle.fmt_string.specs.promise.FormatString.{FormatIs}
 use Rattle.data_types.specs.Kinds.{KindOk}
-use Rattle.fmt_string.specs.Spelling.{spelling_of}
-use Rattle.tree_model.specs.Tree.{Released, Live, Trees, no_trees, more_trees, MaybeTree, absent, present, Depth, depth_of_all, depth_of_maybe}
-use Rattle.raw_schema.specs.Members.{SchemaMembers, SchemaTree}
-use Rattle.data_types.specs.KindTrees.{KindTree, tree_count, IsPairOfColumns, IsOneChild, IsNoChild, KidsOk, DictOk, NodesOk, AllNodesOk, DictNodesOk, TypedOk}
-use Rattle.schema_check.specs.Schemas.{ChildrenFit, IndexFits, MapFits, IsPairNode, IsPairSchema, KidsTyped, DictTyped, TypedFrom, TypedOf}
+use Rattle.fmt_string.specs.promise.Spelling.{spelling_of}
+use Rattle.tree_model.specs.promise.TreeData.{Released, Live, Trees, no_trees, more_trees, MaybeTree, absent, present}
+use Rattle.tree_model.specs.Tree.{Depth, depth_of_all, depth_of_maybe}
+use Rattle.raw_schema.specs.promise.Members.{SchemaMembers, SchemaTree}
+use Rattle.data_types.specs.promise.KindTrees.{KindTree, tree_count}
+use Rattle.data_types.specs.KindTrees.{IsPairOfColumns, IsOneChild, IsNoChild, KidsOk, DictOk, NodesOk, AllNodesOk, DictNodesOk, TypedOk}
+use Rattle.schema_check.specs.promise.Schemas.{ChildrenFit, IndexFits, MapFits, IsPairNode, IsPairSchema, KidsTyped, DictTyped, TypedFrom, TypedOf}
 use Rattle.schema_check.proofs.SchemaOne.{FormatLaw, one_kind}
 
 abbrev pub ValidLaw : Type 0

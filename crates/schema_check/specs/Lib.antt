@@ -1,3 +1,4 @@
+pub mod promise
 pub mod Schemas
 pub mod SchemaAnswers
 pub mod ColumnSchema

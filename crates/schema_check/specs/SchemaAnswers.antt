@@ -1,30 +1,19 @@
 -- What the answers of the check of a schema say, at a node, at its children, and of the whole.
-use Rattle.std.specs.Prelude.{◌≡◌, ℕ, List, ◌∷◌, ◌++◌, Option, None, Some, Result, Ok, Err}
+use Rattle.std.specs.Prelude.{◌≡◌, ℕ, List, ◌∷◌, ◌++◌, Option, Result, Ok, Err}
 use Rattle.data_types.specs.declared.kind.DataType.{DataType}
-use Rattle.schema_meta.specs.declared.fault.MetaFault.{MetaFault}
-use Rattle.schema_meta.specs.Meta.{MetaFaultIs}
-use Rattle.tree_model.specs.Tree.{trees, maybe_tree, children_of, dictionary_of}
-use Rattle.raw_schema.specs.Members.{SchemaTree, members_of}
-use Rattle.schema_check.specs.declared.rule.SchemaRule.{SchemaRule}
+use Rattle.tree_model.specs.promise.TreeData.{trees, maybe_tree}
+use Rattle.tree_model.specs.promise.TreeParts.{children_of, dictionary_of}
+use Rattle.raw_schema.specs.promise.Members.{SchemaTree, members_of}
 use Rattle.schema_check.specs.declared.schema.SchemaFault.{SchemaFault}
 use Rattle.schema_check.specs.declared.schema.SchemaFault.TheVariants.{At, NoMemory}
 use Rattle.data_types.specs.declared.typed.Typed.{Typed}
-use Rattle.data_types.specs.KindTrees.{KindTree}
-use Rattle.data_types.specs.TypedView.{typed_of}
-use Rattle.data_types.specs.Ways.{Steps, dictionary_step, steps_of}
-use Rattle.schema_check.specs.Schemas.{NodeIs, FailsHere, FaultFrom, KidFault, DictFault, TypedOf, SchemaFaultIs}
+use Rattle.data_types.specs.promise.KindTrees.{KindTree}
+use Rattle.data_types.specs.promise.TypedView.{typed_of}
+use Rattle.data_types.specs.promise.Ways.{Steps, dictionary_step, steps_of}
+use Rattle.schema_check.specs.promise.Schemas.{NodeIs, FailsHere, FaultFrom, KidFault, DictFault, SchemaFaultIs}
+use Rattle.schema_check.specs.promise.SchemaAnswers.{FirstFault}
 
 -- ---- the whole
-
--- the way to the first node that fails, and the first rule that fails there
-pub record FirstFault : Type 0 where
-  pub path : Steps
-  pub rule : SchemaRule
-
--- What a schema is: one of these kinds, or one with this first fault.
-abbrev pub SchemaReads : SchemaTree → Result KindTree FirstFault → Type 0
-SchemaReads schema (Ok typed) = TypedOf schema typed
-SchemaReads schema (Err first) = SchemaFaultIs schema first.path first.rule
 
 -- The code's answer is this one, or out of memory.
 abbrev pub Gives : Result Typed SchemaFault → Result KindTree FirstFault → Type 0
@@ -42,11 +31,6 @@ IsFirstFault schema NoMemory = Unit {0}
 -- the node itself meets each rule
 abbrev pub NodeOf : ℕ → SchemaTree → DataType → Type 0
 NodeOf level schema kind = NodeIs level (members_of schema) (trees (children_of schema)) (maybe_tree (dictionary_of schema)) kind
-
--- metadata that is there is refused so
-abbrev pub MetaRefused : Option (List ℕ) → MetaFault → Type 0
-MetaRefused None fault = ⊥
-MetaRefused (Some bytes) fault = MetaFaultIs bytes fault
 
 abbrev pub FaultHere : ℕ → SchemaTree → Steps → SchemaFault → Type 0
 FaultHere level schema way (At path rule) = (steps_of path ≡ way) × FailsHere level schema rule

@@ -1,6 +1,7 @@
 //! The texts of faults of schemas: where the node stands, and which rule it breaks.
 ghost use Rattle.std.specs.Prelude.{◌≡◌, Some};
-ghost use Rattle.schema_check.specs.FaultTexts.{schema_rule_text, schema_fault_text};
+ghost use Rattle.schema_check.specs.promise.FaultTexts.{schema_rule_text};
+ghost use Rattle.schema_check.specs.FaultTexts.{schema_fault_text};
 
 use crate::rule::SchemaRule;
 use crate::schema::SchemaFault;

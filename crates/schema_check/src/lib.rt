@@ -7,7 +7,7 @@
 //! - Laws say that a schema has one answer ([`one_schema_answer`]), and that the kinds of one that meets each rule are
 //!   valid ([`kinds_are_valid`]).
 //!
-//! The definitions are in `specs/Schemas.antt` (the rules) and `specs/ColumnSchema.antt` (the schemas of columns and
+//! The definitions are in `specs/promise/Schemas.antt` (the rules) and `specs/promise/ColumnSchema.antt` (the schemas of columns and
 //! tables). Left to others: trees of kinds and paths (`data_types`), arrays (`layout_check`), and whether a schema is
 //! released, moved or shared in the right order.
 #![tactic(auto)]

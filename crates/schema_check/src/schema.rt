@@ -1,14 +1,18 @@
 //! The rules of a schema, and the kinds of one that meets them.
 ghost use Rattle.std.specs.Prelude.{◌≡◌, ◌↔◌, ◌+◌, ◌<◌, ◌≤◌, IsTrue, Result, IfOk, IfErr, OnOk, map, length, codes};
-ghost use Rattle.fmt_string.specs.FormatString.{FormatIs};
-ghost use Rattle.tree_model.specs.Tree.{IsLive, trees, maybe_tree, children_of, dictionary_of};
-ghost use Rattle.raw_schema.specs.Members.{SchemaTree, members_of};
+ghost use Rattle.fmt_string.specs.promise.FormatString.{FormatIs};
+ghost use Rattle.tree_model.specs.promise.TreeParts.{IsLive, children_of, dictionary_of};
+ghost use Rattle.tree_model.specs.promise.TreeData.{trees, maybe_tree};
+ghost use Rattle.raw_schema.specs.promise.Members.{SchemaTree, members_of};
 ghost use Rattle.schema_check.specs.declared.schema.SchemaFault.TheVariants as faults;
-ghost use Rattle.data_types.specs.KindTrees.{KindTree, TypedOk, most_levels};
-ghost use Rattle.data_types.specs.TypedView.{typed_of, dict_in};
-ghost use Rattle.data_types.specs.Ways.{steps_of};
-ghost use Rattle.schema_check.specs.Schemas.{MetaFits, ChildrenFit, IndexFits, IsPairNode, MapFits, KidsTyped, DictTyped, TypedFrom, TypedOf};
-ghost use Rattle.schema_check.specs.SchemaAnswers.{FirstFault, SchemaReads, Gives, IsFirstFault, NodeOf, MetaRefused, FaultHere, FaultBelow, FaultInKids};
+ghost use Rattle.data_types.specs.promise.KindTrees.{KindTree, most_levels};
+ghost use Rattle.data_types.specs.KindTrees.{TypedOk};
+ghost use Rattle.data_types.specs.promise.TypedView.{typed_of};
+ghost use Rattle.data_types.specs.TypedView.{dict_in};
+ghost use Rattle.data_types.specs.promise.Ways.{steps_of};
+ghost use Rattle.schema_check.specs.promise.Schemas.{MetaFits, ChildrenFit, IndexFits, IsPairNode, MapFits, KidsTyped, DictTyped, TypedFrom, TypedOf};
+ghost use Rattle.schema_check.specs.promise.SchemaAnswers.{FirstFault, SchemaReads, MetaRefused};
+ghost use Rattle.schema_check.specs.SchemaAnswers.{Gives, IsFirstFault, NodeOf, FaultHere, FaultBelow, FaultInKids};
 ghost use Rattle.schema_check.specs.SchemaAnswers.{FaultInDict};
 
 use crate::rule::SchemaRule;

@@ -7,7 +7,8 @@ use Rattle.std.proofs.lemmas.Bool.{cases_lt}
 use Rattle.schema_meta.specs.declared.pair.Pair.{Pair}
 use Rattle.schema_meta.specs.declared.fault.MetaWriteFault.{MetaWriteFault}
 use Rattle.schema_meta.specs.declared.fault.MetaWriteFault.TheVariants.{TooLong, NoMemory}
-use Rattle.schema_meta.specs.Meta.{PairFits, MetaIs, TooLongIs, MetaWriteFaultIs, Writes, GivesBytes}
+use Rattle.schema_meta.specs.promise.Meta.{PairFits, MetaIs}
+use Rattle.schema_meta.specs.Meta.{TooLongIs, MetaWriteFaultIs, Writes, GivesBytes}
 
 fits_before : (ps : List Pair) (i j : ℕ) → i < j → AllByRecursion PairFits (take j ps) → IfSome (slice_get ps i) PairFits
 fits_before [] i j lt fit = tt

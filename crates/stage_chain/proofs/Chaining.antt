@@ -3,19 +3,22 @@ use Rattle.std.proofs.Common.{◌≡◌, ◌≤◌, ◌+◌, ℕ, List, [], ◌�
 use Rattle.std.proofs.Common.{arith, inl, inr}
 use Rattle.std.proofs.lemmas.Bool.Decides.{eqb_tells}
 use Rattle.std.proofs.lemmas.List.Sums.{sum_by-cons}
-use Rattle.raw_schema.specs.Members.{Nodes}
-use Rattle.schema_check.specs.ColumnSchema.{SchemaOf}
-use Rattle.unit_pass.specs.Tally.{Tally, risen}
-use Rattle.stage_model.specs.Links.{Link, links_behind}
-use Rattle.stage_model.specs.Stages.{chunks_after}
-use Rattle.stage_model.specs.Traffic.{Made, link_blocks, link_nodes, table_nodes}
-use Rattle.stage_model.specs.Typing.{Stage}
+use Rattle.tree_model.specs.promise.TreeCost.{Nodes}
+use Rattle.schema_check.specs.promise.ColumnSchema.{SchemaOf}
+use Rattle.unit_pass.specs.promise.Tally.{risen}
+use Rattle.unit_pass.specs.Tally.{Tally}
+use Rattle.stage_model.specs.promise.Links.{Link, links_behind}
+use Rattle.stage_model.specs.promise.Stages.{chunks_after}
+use Rattle.stage_model.specs.promise.Traffic.{Made, link_blocks, link_nodes, table_nodes}
+use Rattle.stage_model.specs.promise.Typing.{Stage}
 use Rattle.stream_face.specs.Raw.{raw_joints, raw_state}
-use Rattle.stream_face.specs.Shown.{Seen, Shown, rows_of_link}
+use Rattle.stream_face.specs.promise.Shown.{Seen, Shown, rows_of_link}
 use Rattle.stream_face.specs.declared.fault.StreamFault.{StreamFault}
-use Rattle.stream_face.specs.Streams.{IsFresh, Making, Stream, Traffic, telling}
+use Rattle.stream_face.specs.promise.Streams.{Making}
+use Rattle.stream_face.specs.Streams.{IsFresh, Stream, Traffic, telling}
 use Rattle.stage_chain.specs.Chains.{chain_links, chain_traffic, joints_with, makings_with, over_stream}
-use Rattle.csv_write.specs.Runs.{Counted, ShowsAll, ShowsSome}
+use Rattle.csv_write.specs.promise.Runs.{ShowsAll, ShowsSome}
+use Rattle.csv_write.specs.Runs.{Counted}
 use Rattle.stream_face.proofs.Orders.{made-none, nil_part}
 use Rattle.csv_write.proofs.RunLemmas.{grown-nil}
 

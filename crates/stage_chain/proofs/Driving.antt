@@ -3,25 +3,28 @@ use Rattle.std.proofs.Common.{◌≡◌, ◌≤◌, ◌<◌, ◌+◌, ◌++◌, 
 use Rattle.std.proofs.Common.{if◌then◌else◌, refl, sym, ◌∙◌, ap, subst, arith, inl, inr}
 use Rattle.std.specs.Global.{Global}
 use Rattle.std.proofs.lemmas.Bool.Decides.{eqb_tells}
-use Rattle.csv_model.specs.Text.{header_text, rows_text, table_text}
+use Rattle.csv_model.specs.promise.Text.{header_text, rows_text, table_text}
 use Rattle.csv_write.specs.CsvTexts.{HasText}
 use Rattle.csv_write.specs.declared.csv_text.CsvText.{CsvText}
-use Rattle.data_types.specs.Parts.{joined_rows}
-use Rattle.data_types.specs.Table.{Column, Row}
-use Rattle.stage_model.specs.Links.{ChunksGiveTheWhole, Link, Whole, last_columns}
-use Rattle.data_types.specs.Table.{Table}
-use Rattle.stage_model.specs.Stages.{chunks_after, table}
+use Rattle.data_types.specs.promise.Parts.{joined_rows}
+use Rattle.data_types.specs.promise.Table.{Column, Row}
+use Rattle.stage_model.specs.promise.Links.{Link, Whole}
+use Rattle.stage_model.specs.Links.{ChunksGiveTheWhole, last_columns}
+use Rattle.data_types.specs.promise.Table.{Table}
+use Rattle.stage_model.specs.promise.Stages.{chunks_after, table}
 use Rattle.stage_model.specs.declared.stage.Step.{Step}
 use Rattle.stage_model.specs.declared.stage.Step.TheVariants as steps
 use Rattle.data_types.specs.declared.row_fault.RowFault.{RowFault}
 use Rattle.stream_face.specs.Raw.{apart}
 use Rattle.stream_face.proofs.Orders.{nil_part}
-use Rattle.stage_model.specs.Typing.{Stage}
-use Rattle.stream_face.specs.Calls.{Begins, IsMade}
-use Rattle.stream_face.specs.Shown.{Seen, Shown, of_link, rows_of_link, shown_tables}
-use Rattle.stream_face.specs.Streams.{Making, Stream}
-use Rattle.stage_chain.specs.Chains.{ShowsFirst, ShowsLinks, chain_links, chunks_of, joints_with, last_rows, link_making, link_makings, link_shows, makings_behind, makings_with}
-use Rattle.csv_write.specs.Runs.{ShowsAll, ShowsSome}
+use Rattle.stage_model.specs.promise.Typing.{Stage}
+use Rattle.stream_face.specs.promise.Calls.{Begins, IsMade}
+use Rattle.stream_face.specs.promise.Shown.{Seen, Shown, of_link, rows_of_link, shown_tables}
+use Rattle.stream_face.specs.promise.Streams.{Making}
+use Rattle.stream_face.specs.Streams.{Stream}
+use Rattle.stage_chain.specs.promise.Chains.{ShowsFirst, ShowsLinks, link_making, link_makings, link_shows, makings_behind}
+use Rattle.stage_chain.specs.Chains.{chain_links, chunks_of, joints_with, last_rows, makings_with}
+use Rattle.csv_write.specs.promise.Runs.{ShowsAll, ShowsSome}
 use Rattle.csv_write.specs.declared.fault.DriveFault.{DriveFault}
 use Rattle.stage_chain.proofs.Chaining.{IsStarted}
 

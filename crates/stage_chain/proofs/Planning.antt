@@ -4,10 +4,11 @@ use Rattle.std.proofs.Common.{false, ◌||◌, refl, sym, ◌∙◌, ap, subst, 
 use Rattle.std.specs.List.{list_any}
 use Rattle.field_codec.specs.TextColumns.{HasTexts, HaveTexts}
 use Rattle.data_types.specs.ColumnForms.{AreColumnKinds}
-use Rattle.data_types.specs.Table.{Column, Kind, Flat, Dict, Columns}
+use Rattle.data_types.specs.promise.Table.{Column, Kind, Flat, Dict, Columns}
 use Rattle.stage_model.specs.Links.{last_columns}
-use Rattle.stage_model.specs.Typing.{IsStageOver, RuleTest, Stage, columns_after, first_failing, is_struct, plan_end, plan_from, plan_links, plan_steps}
-use Rattle.stage_model.specs.Typing.{rules_of, stage_over, stage_unless, step_of, with_stage}
+use Rattle.stage_model.specs.promise.Typing.{RuleTest, Stage, columns_after, first_failing, is_struct, plan_end, plan_from}
+use Rattle.stage_model.specs.Typing.{IsStageOver, plan_links, plan_steps}
+use Rattle.stage_model.specs.promise.Typing.{rules_of, stage_over, stage_unless, step_of, with_stage}
 use Rattle.stage_model.specs.declared.fault.PlanFault.{PlanFault}
 use Rattle.stage_model.specs.declared.fault.PlanRule.{PlanRule}
 use Rattle.stage_model.specs.declared.stage.StageText.{StageText}

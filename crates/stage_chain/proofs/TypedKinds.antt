@@ -2,7 +2,7 @@
 use Rattle.std.proofs.Common.{zero, suc, List, [], ◌∷◌, All, map, arith}
 use Rattle.data_types.specs.ColumnForms.{AreColumnKinds, KindsOk, MembersAreColumns, MembersOk}
 use Rattle.data_types.specs.ColumnView.{column_of}
-use Rattle.data_types.specs.Table.{Kind, Flat, Dict, Columns, Members, no_members, more_members}
+use Rattle.data_types.specs.promise.Table.{Kind, Flat, Dict, Columns, Members, no_members, more_members}
 use Rattle.data_types.specs.declared.kind.ColumnType.{ColumnType}
 
 mutual

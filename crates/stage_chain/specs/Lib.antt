@@ -1,3 +1,4 @@
+pub mod promise
 pub mod Boxes
 pub mod Plans
 pub mod Chains

@@ -5,8 +5,9 @@ use Rattle.std.specs.Vec.Iter.{into_iter_items}
 use Rattle.std.specs.declared.vec.IntoIter.{IntoIter}
 use Rattle.std.specs.Global.{Global}
 use Rattle.data_types.specs.ColumnView.{column_of}
-use Rattle.data_types.specs.Table.{Column}
-use Rattle.stage_model.specs.Typing.{IsStageOver, Stage, is_struct}
+use Rattle.data_types.specs.promise.Table.{Column}
+use Rattle.stage_model.specs.promise.Typing.{Stage, is_struct}
+use Rattle.stage_model.specs.Typing.{IsStageOver}
 use Rattle.stage_model.specs.declared.stage.Step.{Step}
 use Rattle.stage_plan.specs.PlanWords.{columns_in}
 use Rattle.stage_plan.specs.declared.typing.Plan.{Plan}

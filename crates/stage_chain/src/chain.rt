@@ -2,19 +2,20 @@
 ghost use Rattle.std.specs.Prelude.{◌≡◌, ◌≤◌, ◌+◌, ◌*◌, ◌++◌, ◌∷◌, ◌^◌, List, Option, Some, None, Err, ℕ, [], IsTrue, IfOk, IfErr, OnOk, OnErr, length, nat_lt};
 ghost use Rattle.std.specs.Prelude.{if◌then◌else◌};
 ghost use Rattle.std.specs.Thread.{IsSync};
-ghost use Rattle.csv_model.specs.Text.{rows_text};
+ghost use Rattle.csv_model.specs.promise.Text.{rows_text};
 ghost use Rattle.csv_write.specs.CsvTexts.{HasText};
 ghost use Rattle.data_types.specs.ColumnForms.{AreColumnKinds};
-ghost use Rattle.data_types.specs.Table.{Column};
+ghost use Rattle.data_types.specs.promise.Table.{Column};
 ghost use Rattle.unit_pass.specs.declared.pass.TheConstants.{CHUNK, ROOM, SUPPLY};
 ghost use Rattle.stages.specs.Structs.{column_structs};
 ghost use Rattle.stage_model.specs.Links.{last_columns};
-ghost use Rattle.stage_plan.specs.PlanWords.{most_stages};
+ghost use Rattle.stage_plan.specs.promise.PlanWords.{most_stages};
 ghost use Rattle.stream_face.specs.Streams.{IsFresh, Stream, kept};
 ghost use Rattle.stage_chain.specs.Chains.{chain_links, chain_traffic, joints_with, last_rows, makings_with};
 ghost use Rattle.csv_write.specs.Faults.{IfRow, OnRow};
 ghost use Rattle.stage_chain.specs.Plans.{AreStages, stages_left};
-ghost use Rattle.csv_write.specs.Runs.{Counted, ShowsAll, ShowsSome};
+ghost use Rattle.csv_write.specs.promise.Runs.{ShowsAll, ShowsSome};
+ghost use Rattle.csv_write.specs.Runs.{Counted};
 
 use crate::boxed::Boxed;
 use crate::planned::PlannedStage;

@@ -1,7 +1,7 @@
 //! The stream of a stage.
 ghost use Rattle.std.specs.Prelude.{◌≡◌, ◌≤◌, IsTrue, List};
-ghost use Rattle.data_types.specs.Table.{Row};
-ghost use Rattle.raw_array.specs.Members.{ArrayTree};
+ghost use Rattle.data_types.specs.promise.Table.{Row};
+ghost use Rattle.raw_array.specs.promise.Members.{ArrayTree};
 ghost use Rattle.stages.specs.Structs.{column_structs, most_structs};
 ghost use Rattle.stage_model.specs.Typing.{IsStageOver};
 ghost use Rattle.stages.specs.Stages.{stage_gives, stage_state};

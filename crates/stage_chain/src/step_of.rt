@@ -1,12 +1,12 @@
 //! The trait of a type that has steps of all kinds: each is made of a step of the plan.
 ghost use Rattle.std.specs.Prelude.{◌≡◌, ◌≤◌, IsTrue, List, Option, Some, map};
 ghost use Rattle.data_types.specs.ColumnView.{column_of};
-ghost use Rattle.data_types.specs.Table.{Column, Row};
+ghost use Rattle.data_types.specs.promise.Table.{Column, Row};
 ghost use Rattle.data_types.specs.declared.row_fault.RowFault.{RowFault};
-ghost use Rattle.raw_array.specs.Members.{ArrayTree};
+ghost use Rattle.raw_array.specs.promise.Members.{ArrayTree};
 ghost use Rattle.stages.specs.Structs.{column_structs, most_structs};
-ghost use Rattle.stage_model.specs.Stages.{chunks_after};
-ghost use Rattle.stage_model.specs.Traffic.{made_blocks, made_nodes};
+ghost use Rattle.stage_model.specs.promise.Stages.{chunks_after};
+ghost use Rattle.stage_model.specs.promise.Traffic.{made_blocks, made_nodes};
 ghost use Rattle.stage_model.specs.Typing.{IsStageOver};
 ghost use Rattle.stage_model.specs.declared.stage.Step.{Step as AStep};
 

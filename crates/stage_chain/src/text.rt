@@ -1,18 +1,20 @@
 //! The text of a table that stages make of a stream.
 ghost use Rattle.std.specs.Prelude.{◌≡◌, ◌≤◌, ◌+◌, ◌*◌, List, None, Some, ℕ, [], All, IsTrue, IfErr, IfOk, OnErr, OnOk, length, get_or};
 ghost use Rattle.std.specs.List.{AllByRecursion};
-ghost use Rattle.csv_model.specs.Text.{header_text, table_text};
+ghost use Rattle.csv_model.specs.promise.Text.{header_text, table_text};
 ghost use Rattle.csv_write.specs.CsvTexts.{HasText};
 ghost use Rattle.field_codec.specs.TextColumns.{HaveTexts};
-ghost use Rattle.data_types.specs.Parts.{joined_rows};
+ghost use Rattle.data_types.specs.promise.Parts.{joined_rows};
 ghost use Rattle.stages.specs.Structs.{column_structs};
-ghost use Rattle.stage_model.specs.Links.{Whole};
-ghost use Rattle.stage_model.specs.Stages.{table};
+ghost use Rattle.stage_model.specs.promise.Links.{Whole};
+ghost use Rattle.stage_model.specs.promise.Stages.{table};
 ghost use Rattle.stage_model.specs.declared.stage.StageText.{StageText as AText};
-ghost use Rattle.stage_plan.specs.PlanWords.{IsPlan, most_stages};
+ghost use Rattle.stage_plan.specs.promise.PlanWords.{most_stages};
+ghost use Rattle.stage_plan.specs.PlanWords.{IsPlan};
 ghost use Rattle.unit_pass.specs.declared.pass.TheConstants.{ROOM, SUPPLY};
 ghost use Rattle.stream_face.specs.Streams.{IsFresh, kept};
-ghost use Rattle.stage_chain.specs.Chains.{chain_links, chain_traffic, ShowsFirst, ShowsLinks};
+ghost use Rattle.stage_chain.specs.promise.Chains.{ShowsFirst, ShowsLinks};
+ghost use Rattle.stage_chain.specs.Chains.{chain_links, chain_traffic};
 ghost use Rattle.csv_write.specs.Faults.{IfRow, OnRow};
 ghost use Rattle.stage_chain.specs.Plans.{links_of, plan_stages, stages_in};
 ghost use Rattle.csv_write.specs.Runs.{Counted};

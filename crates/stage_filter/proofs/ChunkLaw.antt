@@ -1,14 +1,14 @@
 -- The items of a struct are its rows.
 use Rattle.std.proofs.Common.{◌≡◌, ◌∙◌, ℕ, zero, suc, List, [], ◌∷◌, map, All, refl, ap}
 use Rattle.std.proofs.lemmas.List.Elements.{All-head, All-tail}
-use Rattle.data_types.specs.Parts.{fields_of, value_list}
-use Rattle.data_types.specs.Table.{Row}
-use Rattle.data_types.specs.Value.{Value, Values, Fields, no_values, more_values, values}
-use Rattle.raw_array.specs.Members.{ArrayTree}
-use Rattle.data_types.specs.ColumnKinds.{table_type}
-use Rattle.data_types.specs.KindTrees.{KindTree}
-use Rattle.layout_rules.specs.Values.{each, row_items, rows_of, values_of}
-use Rattle.arr_export.specs.ArrayTrees.{table_tree}
+use Rattle.data_types.specs.promise.Parts.{fields_of, value_list}
+use Rattle.data_types.specs.promise.Table.{Row}
+use Rattle.data_types.specs.promise.Value.{Value, Values, Fields, no_values, more_values, values}
+use Rattle.raw_array.specs.promise.Members.{ArrayTree}
+use Rattle.data_types.specs.promise.ColumnKinds.{table_type}
+use Rattle.data_types.specs.promise.KindTrees.{KindTree}
+use Rattle.layout_rules.specs.promise.Values.{each, row_items, rows_of, values_of}
+use Rattle.arr_export.specs.promise.ArrayTrees.{table_tree}
 use Rattle.stream_face.specs.Lawful.{HasFields}
 
 -- ---- a struct's items are its rows

@@ -1,10 +1,10 @@
 -- The rows of a table are those that its columns give back.
 use Rattle.std.proofs.Common.{◌≡◌, ◌∙◌, ◌≤◌, ◌<◌, ◌+◌, ℕ, zero, suc, List, [], ◌∷◌, length, map, get_or, All, refl, ap, arith}
 use Rattle.std.proofs.lemmas.List.{get_or-map, length-map}
-use Rattle.data_types.specs.Parts.{column_values}
-use Rattle.data_types.specs.Table.{Column, Row}
-use Rattle.data_types.specs.Value.{Value, Null}
-use Rattle.layout_rules.specs.Values.{each}
+use Rattle.data_types.specs.promise.Parts.{column_values}
+use Rattle.data_types.specs.promise.Table.{Column, Row}
+use Rattle.data_types.specs.promise.Value.{Value, Null}
+use Rattle.layout_rules.specs.promise.Values.{each}
 use Rattle.arr_export.specs.ArrayTrees.{rows_of_values}
 
 abbrev pub all_values : ℕ → List Column → List Row → List (List Value)

@@ -6,19 +6,22 @@ use Rattle.std.proofs.Math.Logic.{∥∥₁_elim}
 use Rattle.std.proofs.Props.{props}
 use Rattle.data_types.specs.ColumnForms.{AreColumnKinds}
 use Rattle.data_types.specs.ColumnView.{column_of}
-use Rattle.data_types.specs.Table.{Column, Row, Kind, Flat, Dict, Columns, Members, no_members, more_members}
-use Rattle.data_types.specs.Value.{Null}
+use Rattle.data_types.specs.promise.Table.{Column, Row, Kind, Flat, Dict, Columns, Members, no_members, more_members}
+use Rattle.data_types.specs.promise.Value.{Null}
 use Rattle.data_types.specs.declared.kind.ColumnType.{ColumnType}
-use Rattle.tree_model.specs.Tree.{IsLive, child_at}
-use Rattle.unit_pass.specs.Tally.{Tally, risen}
+use Rattle.tree_model.specs.promise.TreeParts.{IsLive, child_at}
+use Rattle.unit_pass.specs.promise.Tally.{risen}
+use Rattle.unit_pass.specs.Tally.{Tally}
 use Rattle.unit_pass.specs.declared.pass.TheConstants.{CHUNK}
-use Rattle.raw_array.specs.Members.{ArrayTree, Cost, Like}
-use Rattle.data_types.specs.ColumnKinds.{type_of_columns}
-use Rattle.data_types.specs.KindTrees.{KindTree, TypedOk}
-use Rattle.layout_rules.specs.Values.{rows_of}
-use Rattle.layout_rules.specs.Walk.{ChunkOk}
-use Rattle.stage_model.specs.Stages.{passes, rows_after}
-use Rattle.stage_model.specs.Traffic.{Moved, made_blocks, made_nodes, table_blocks, table_nodes}
+use Rattle.raw_array.specs.promise.Members.{ArrayTree, Cost}
+use Rattle.raw_array.specs.Members.{Like}
+use Rattle.data_types.specs.promise.ColumnKinds.{type_of_columns}
+use Rattle.data_types.specs.promise.KindTrees.{KindTree}
+use Rattle.data_types.specs.KindTrees.{TypedOk}
+use Rattle.layout_rules.specs.promise.Values.{rows_of}
+use Rattle.layout_rules.specs.promise.Walk.{ChunkOk}
+use Rattle.stage_model.specs.promise.Stages.{passes, rows_after}
+use Rattle.stage_model.specs.promise.Traffic.{Moved, made_blocks, made_nodes, table_blocks, table_nodes}
 use Rattle.stage_model.specs.declared.stage.Const.{Const}
 use Rattle.stage_model.specs.declared.stage.Step.TheVariants as steps
 use Rattle.stage_model.specs.declared.stage.Test.{Test}

@@ -7,19 +7,21 @@ use Rattle.std.specs.List.{filter, flat_map}
 use Rattle.std.proofs.lemmas.List.{append-nil, length-drop, take_all, take_more}
 use Rattle.std.proofs.lemmas.Grind.{flat_map-append}
 use Rattle.std.proofs.lemmas.List.Elements.{filter-append}
-use Rattle.data_types.specs.Table.{Row}
-use Rattle.data_types.specs.Value.{Null}
-use Rattle.tree_model.specs.Tree.{IsLive, Live, Released, child_at, children_of, maybe_tree, trees}
-use Rattle.raw_array.specs.Members.{ArrayTree, members_of}
-use Rattle.data_types.specs.KindTrees.{KindTree}
-use Rattle.layout_rules.specs.Layout.{first}
-use Rattle.data_types.specs.TypedView.{dict_in, kids_of, kind_of, typed_of}
-use Rattle.layout_rules.specs.Values.{each, row_items, rows_of, tree_items, value_at}
+use Rattle.data_types.specs.promise.Table.{Row}
+use Rattle.data_types.specs.promise.Value.{Null}
+use Rattle.tree_model.specs.promise.TreeParts.{IsLive, child_at, children_of}
+use Rattle.tree_model.specs.promise.TreeData.{Live, Released, maybe_tree, trees}
+use Rattle.raw_array.specs.promise.Members.{ArrayTree, members_of}
+use Rattle.data_types.specs.promise.KindTrees.{KindTree}
+use Rattle.layout_rules.specs.promise.Layout.{first}
+use Rattle.data_types.specs.promise.TypedView.{typed_of}
+use Rattle.data_types.specs.TypedView.{dict_in, kids_of, kind_of}
+use Rattle.layout_rules.specs.promise.Values.{each, row_items, rows_of, tree_items, value_at}
 use Rattle.data_types.specs.declared.typed.Typed.{Typed, out-Typed}
 use Rattle.array_laws.specs.Pieces.{border}
 use Rattle.arr_import.specs.Window.{Window, child_window, item_at, whole}
 use Rattle.arr_import.proofs.Reading.{kids-typed, row-field}
-use Rattle.stage_model.specs.Stages.{passes}
+use Rattle.stage_model.specs.promise.Stages.{passes}
 use Rattle.stage_model.specs.declared.stage.Const.{Const}
 use Rattle.stage_model.specs.declared.stage.Test.{Test}
 use Rattle.stage_filter.specs.Kept.{kept_numbers, numbers}

@@ -7,23 +7,26 @@ use Rattle.std.specs.Prelude.{◌≤ℤ◌, nat_lt, if◌then◌else◌}
 use Rattle.std.specs.List.{list_any}
 use Rattle.data_types.specs.ColumnForms.{IsColumnKind}
 use Rattle.data_types.specs.FieldText.{IsValueOf}
-use Rattle.data_types.specs.Table.{Dict}
-use Rattle.data_types.specs.Value.{Value, Null, Truth, Whole, Bits, Bytes, Items, Fields, byte_total, bytes_of, is_null}
+use Rattle.data_types.specs.promise.Table.{Dict}
+use Rattle.data_types.specs.promise.Value.{Value, Null, Truth, Whole, Bits, Bytes, Items, Fields, byte_total, bytes_of, is_null}
 use Rattle.data_types.specs.declared.kind.DataType.{DataType}
-use Rattle.data_types.specs.Packed.{meant, number_at}
-use Rattle.tree_model.specs.Tree.{Depth, Released, Live, IsLive, Trees, no_trees, more_trees, absent, present, children_of, dictionary_at, dictionary_of}
-use Rattle.raw_array.specs.Members.{ArrayMembers, ArrayTree, members_of}
+use Rattle.data_types.specs.promise.Packed.{meant, number_at}
+use Rattle.tree_model.specs.promise.TreeData.{Released, Live, Trees, no_trees, more_trees, absent, present}
+use Rattle.tree_model.specs.promise.TreeParts.{IsLive, children_of, dictionary_of}
+use Rattle.tree_model.specs.Tree.{Depth, dictionary_at}
+use Rattle.raw_array.specs.promise.Members.{ArrayMembers, ArrayTree, members_of}
 use Rattle.col_build.specs.Encoding.{Fits}
-use Rattle.col_build.specs.Finished.{blocks_of}
-use Rattle.data_types.specs.ColumnKinds.{type_of_kind}
-use Rattle.data_types.specs.KindTrees.{KindTree}
-use Rattle.layout_rules.specs.Layout.{IsLong, buffer, bytes, end, first, is_valid, natural, stored_number}
-use Rattle.layout_rules.specs.Rules.{one_if, window_limit}
-use Rattle.layout_rules.specs.Values.{each, tree_items, value_at, values_of}
-use Rattle.layout_rules.specs.Walk.{LayoutOk}
+use Rattle.col_build.specs.promise.Finished.{blocks_of}
+use Rattle.data_types.specs.promise.ColumnKinds.{type_of_kind}
+use Rattle.data_types.specs.promise.KindTrees.{KindTree}
+use Rattle.layout_rules.specs.promise.Layout.{buffer, bytes, end, first, is_valid, natural, stored_number}
+use Rattle.layout_rules.specs.Layout.{IsLong}
+use Rattle.layout_rules.specs.promise.Rules.{one_if, window_limit}
+use Rattle.layout_rules.specs.promise.Values.{each, tree_items, value_at, values_of}
+use Rattle.layout_rules.specs.promise.Walk.{LayoutOk}
 use Rattle.layout_rules.specs.Within.{IndexWithin}
 use Rattle.arr_export.specs.ArrayTrees.{AreIndices, IsPlaceOf, flat_type, looked_up}
-use Rattle.stage_model.specs.Traffic.{flat_blocks, index_blocks, row_blocks}
+use Rattle.stage_model.specs.promise.Traffic.{flat_blocks, index_blocks, row_blocks}
 use Rattle.stream_face.specs.Lawful.{AreValues}
 use Rattle.column_fill.specs.Gathered.{values_at}
 use Rattle.stage_filter.specs.Kept.{index_in}

@@ -1,7 +1,7 @@
 -- The type of a column is one of an array that is there.
-use Rattle.data_types.specs.Table.{Kind, Flat, Dict, Columns}
-use Rattle.tree_model.specs.Tree.{IsLive}
-use Rattle.data_types.specs.ColumnKinds.{type_of_kind}
+use Rattle.data_types.specs.promise.Table.{Kind, Flat, Dict, Columns}
+use Rattle.tree_model.specs.promise.TreeParts.{IsLive}
+use Rattle.data_types.specs.promise.ColumnKinds.{type_of_kind}
 
 pub live-type : (kind : Kind) → IsLive (type_of_kind kind)
 live-type (Flat kind) = tt

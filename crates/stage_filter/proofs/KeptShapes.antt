@@ -1,13 +1,15 @@
 -- The arrays of some items are live, long enough and not too deep: a table may have them as columns.
 use Rattle.std.proofs.Common.{◌≡◌, ◌≤◌, ◌<◌, ◌+◌, ℕ, zero, suc, List, [], ◌∷◌, length, drop, get_or, All, None, refl, sym, ap, subst, arith}
 use Rattle.std.proofs.lemmas.List.{length-map}
-use Rattle.data_types.specs.Parts.{member_columns}
-use Rattle.data_types.specs.Table.{Column, Kind, Flat, Dict, Columns, Members, no_members, more_members}
-use Rattle.tree_model.specs.Tree.{Depth, IsLive, Released, children_of, depth_of_all, trees}
-use Rattle.raw_array.specs.Members.{ArrayTree, members_of}
-use Rattle.data_types.specs.ColumnKinds.{type_of_kind, types_of_members, types_of_columns}
-use Rattle.layout_rules.specs.Layout.{first}
-use Rattle.layout_rules.specs.Values.{tree_items, value_at}
+use Rattle.data_types.specs.promise.Parts.{member_columns}
+use Rattle.data_types.specs.promise.Table.{Column, Kind, Flat, Dict, Columns, Members, no_members, more_members}
+use Rattle.tree_model.specs.promise.TreeParts.{IsLive, children_of}
+use Rattle.tree_model.specs.promise.TreeData.{Released, trees}
+use Rattle.tree_model.specs.Tree.{Depth, depth_of_all}
+use Rattle.raw_array.specs.promise.Members.{ArrayTree, members_of}
+use Rattle.data_types.specs.promise.ColumnKinds.{type_of_kind, types_of_members, types_of_columns}
+use Rattle.layout_rules.specs.promise.Layout.{first}
+use Rattle.layout_rules.specs.promise.Values.{tree_items, value_at}
 use Rattle.arr_export.specs.ArrayTrees.{IsColumn, flat_type}
 use Rattle.stage_filter.specs.KeptTrees.{index_type, kept_columns, kept_members, kept_tree}
 use Rattle.stage_filter.specs.Moving.{CanMove, CanMoveRows}

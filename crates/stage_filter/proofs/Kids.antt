@@ -1,13 +1,17 @@
 -- The type of a child, as the code keeps it.
 use Rattle.std.proofs.Common.{◌≡◌, ◌∙◌, ◌≤◌, ◌<◌, ℕ, zero, suc, List, [], ◌∷◌, length, get_or, sym, ap, subst, arith}
 use Rattle.std.proofs.lemmas.List.{length-map}
-use Rattle.data_types.specs.Table.{Column}
-use Rattle.tree_model.specs.Tree.{Depth, Live, Released, children_of, depth_of_all, maybe_tree, trees}
+use Rattle.data_types.specs.promise.Table.{Column}
+use Rattle.tree_model.specs.promise.TreeData.{Live, Released, maybe_tree, trees}
+use Rattle.tree_model.specs.promise.TreeParts.{children_of}
+use Rattle.tree_model.specs.Tree.{Depth, depth_of_all}
 use Rattle.tree_model.proofs.Lists.{tree_list-trees}
 use Rattle.data_types.specs.declared.typed.Typed.{Typed, out-Typed}
-use Rattle.data_types.specs.ColumnKinds.{type_of_column, type_of_columns, type_of_kind, types_of_columns}
-use Rattle.data_types.specs.KindTrees.{AllNodesOk, KindTree, NodesOk, TypedOk}
-use Rattle.data_types.specs.TypedView.{dict_in, kids_of, kind_of, typed_of}
+use Rattle.data_types.specs.promise.ColumnKinds.{type_of_column, type_of_columns, type_of_kind, types_of_columns}
+use Rattle.data_types.specs.promise.KindTrees.{KindTree}
+use Rattle.data_types.specs.KindTrees.{AllNodesOk, NodesOk, TypedOk}
+use Rattle.data_types.specs.promise.TypedView.{typed_of}
+use Rattle.data_types.specs.TypedView.{dict_in, kids_of, kind_of}
 use Rattle.arr_import.proofs.Reading.{kid-tree}
 
 -- one level of a type that the code keeps

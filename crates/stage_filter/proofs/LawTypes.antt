@@ -1,16 +1,17 @@
 -- The laws of the crates below that the proofs cite.
 use Rattle.std.proofs.Common.{◌≡◌, ◌≤◌, ◌^◌, ℕ, List, length, map, All, None, Some}
-use Rattle.data_types.specs.Value.{Value}
+use Rattle.data_types.specs.promise.Value.{Value}
 use Rattle.data_types.specs.declared.kind.DataType.{DataType}
-use Rattle.tree_model.specs.Tree.{IsLive}
-use Rattle.raw_array.specs.Members.{ArrayTree}
+use Rattle.tree_model.specs.promise.TreeParts.{IsLive}
+use Rattle.raw_array.specs.promise.Members.{ArrayTree}
 use Rattle.col_build.specs.Encoding.{Fits}
-use Rattle.data_types.specs.ColumnKinds.{table_type}
-use Rattle.data_types.specs.KindTrees.{KindTree}
+use Rattle.data_types.specs.promise.ColumnKinds.{table_type}
+use Rattle.data_types.specs.promise.KindTrees.{KindTree}
 use Rattle.layout_rules.specs.Lawful.{ItemsHold, PartsHold, RootHolds}
-use Rattle.layout_rules.specs.Values.{rows_of, tree_items, values_of}
-use Rattle.layout_rules.specs.Walk.{ChunkOk, LayoutOk}
-use Rattle.arr_export.specs.ArrayTrees.{AreIndices, AreLawful, HaveValues, column_tree, flat_type, looked_up, rows_of_values, table_tree}
+use Rattle.layout_rules.specs.promise.Values.{rows_of, tree_items, values_of}
+use Rattle.layout_rules.specs.promise.Walk.{ChunkOk, LayoutOk}
+use Rattle.arr_export.specs.promise.ArrayTrees.{column_tree, table_tree}
+use Rattle.arr_export.specs.ArrayTrees.{AreIndices, AreLawful, HaveValues, flat_type, looked_up, rows_of_values}
 
 -- ---- what is made
 

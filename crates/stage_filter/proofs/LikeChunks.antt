@@ -1,13 +1,16 @@
 -- A chunk that is like one which can be filtered can be filtered too.
 use Rattle.std.proofs.Common.{◌≡◌, ◌≢◌, ◌∙◌, ℕ, List, [], ◌∷◌, ◌≤◌, ◌^◌, length, get_or, All, drop, zero, suc, sym, ap, subst, refl}
-use Rattle.data_types.specs.Table.{Column, Row, Kind, Flat, Dict, Columns, Members, no_members, more_members}
-use Rattle.data_types.specs.Value.{Value, Null}
-use Rattle.tree_model.specs.Tree.{Released, Live, Trees, no_trees, more_trees, absent, present, AllAlike, child_at, children_of, dictionary_at, tree_list}
-use Rattle.raw_array.specs.Members.{ArrayMembers, ArrayTree, Cost, Like, LikeMembers}
-use Rattle.data_types.specs.ColumnKinds.{type_of_columns}
-use Rattle.data_types.specs.KindTrees.{KindTree}
-use Rattle.layout_rules.specs.Values.{rows_of, values_of}
-use Rattle.layout_rules.specs.Walk.{ChunkOk}
+use Rattle.data_types.specs.promise.Table.{Column, Row, Kind, Flat, Dict, Columns, Members, no_members, more_members}
+use Rattle.data_types.specs.promise.Value.{Value, Null}
+use Rattle.tree_model.specs.promise.TreeData.{Released, Live, Trees, no_trees, more_trees, absent, present, tree_list}
+use Rattle.tree_model.specs.promise.TreeParts.{child_at, children_of}
+use Rattle.tree_model.specs.Tree.{AllAlike, dictionary_at}
+use Rattle.raw_array.specs.promise.Members.{ArrayMembers, ArrayTree, Cost}
+use Rattle.raw_array.specs.Members.{Like, LikeMembers}
+use Rattle.data_types.specs.promise.ColumnKinds.{type_of_columns}
+use Rattle.data_types.specs.promise.KindTrees.{KindTree}
+use Rattle.layout_rules.specs.promise.Values.{rows_of, values_of}
+use Rattle.layout_rules.specs.promise.Walk.{ChunkOk}
 use Rattle.stream_face.specs.Lawful.{DictsAreFull, IsTable, MemberDictsAreFull}
 use Rattle.stage_filter.specs.Filters.{CanFilter}
 

@@ -1,16 +1,17 @@
 -- The array of a finished column is made of what its traffic says.
 use Rattle.std.proofs.Common.{◌≡◌, ◌∙◌, ◌≤◌, ◌+◌, ℕ, List, Option, None, Some, ap, arith}
 use Rattle.std.proofs.lemmas.List.{length-map}
-use Rattle.data_types.specs.Table.{Flat, Dict}
+use Rattle.data_types.specs.promise.Table.{Flat, Dict}
 use Rattle.data_types.specs.declared.kind.DataType.{DataType}
 use Rattle.tree_model.specs.Tree.{dictionary_at}
-use Rattle.unit_pass.specs.Tally.{Tally, risen}
-use Rattle.raw_array.specs.Members.{ArrayTree, Cost}
-use Rattle.col_build.specs.Finished.{blocks_of}
-use Rattle.data_types.specs.ColumnKinds.{type_of_kind}
-use Rattle.layout_rules.specs.Values.{value_at}
-use Rattle.arr_export.specs.ArrayTrees.{column_tree}
-use Rattle.stage_model.specs.Traffic.{Moved, kind_blocks}
+use Rattle.unit_pass.specs.promise.Tally.{risen}
+use Rattle.unit_pass.specs.Tally.{Tally}
+use Rattle.raw_array.specs.promise.Members.{ArrayTree, Cost}
+use Rattle.col_build.specs.promise.Finished.{blocks_of}
+use Rattle.data_types.specs.promise.ColumnKinds.{type_of_kind}
+use Rattle.layout_rules.specs.promise.Values.{value_at}
+use Rattle.arr_export.specs.promise.ArrayTrees.{column_tree}
+use Rattle.stage_model.specs.promise.Traffic.{Moved, kind_blocks}
 use Rattle.column_fill.proofs.ColumnBlocks.{blocks-are}
 use Rattle.column_fill.proofs.ColumnCosts.{column-cost, few-blocks}
 use Rattle.column_fill.proofs.ValuesTaken.{values-fit}

@@ -4,7 +4,7 @@ use Rattle.std.specs.Prelude.{if◌then◌else◌}
 use Rattle.std.specs.List.{filter}
 use Rattle.std.proofs.lemmas.List.{append-nil}
 use Rattle.std.proofs.lemmas.List.Elements.{All-filter, filter-append}
-use Rattle.layout_rules.specs.Values.{each}
+use Rattle.layout_rules.specs.promise.Values.{each}
 use Rattle.stage_filter.specs.Kept.{numbers}
 
 -- one number more

@@ -2,14 +2,16 @@
 use Rattle.std.proofs.Common.{◌≡◌, ◌∙◌, ◌+◌, ◌++◌, ℕ, List, [], ◌∷◌, length, drop, get_or, refl, sym, ap, arith}
 use Rattle.std.specs.List.{sum_by}
 use Rattle.std.proofs.lemmas.List.Sums.{sum_by_push}
-use Rattle.data_types.specs.Parts.{column_values}
-use Rattle.data_types.specs.Table.{Column, Row}
-use Rattle.tree_model.specs.Tree.{Released, child_at, children_of}
-use Rattle.unit_pass.specs.Tally.{Tally, risen}
-use Rattle.raw_array.specs.Members.{ArrayTree, members_of}
-use Rattle.data_types.specs.ColumnKinds.{type_of_kind}
-use Rattle.layout_rules.specs.Layout.{first}
-use Rattle.stage_model.specs.Traffic.{Moved, blocks_from, kind_blocks, kind_nodes}
+use Rattle.data_types.specs.promise.Parts.{column_values}
+use Rattle.data_types.specs.promise.Table.{Column, Row}
+use Rattle.tree_model.specs.promise.TreeData.{Released}
+use Rattle.tree_model.specs.promise.TreeParts.{child_at, children_of}
+use Rattle.unit_pass.specs.promise.Tally.{risen}
+use Rattle.unit_pass.specs.Tally.{Tally}
+use Rattle.raw_array.specs.promise.Members.{ArrayTree, members_of}
+use Rattle.data_types.specs.promise.ColumnKinds.{type_of_kind}
+use Rattle.layout_rules.specs.promise.Layout.{first}
+use Rattle.stage_model.specs.promise.Traffic.{Moved, blocks_from, kind_blocks, kind_nodes}
 use Rattle.column_fill.specs.Gathered.{values_at}
 use Rattle.stage_filter.specs.KeptTrees.{kept_columns, kept_tree}
 use Rattle.stage_filter.specs.Moving.{AreFiltered, IsFiltered}

@@ -5,9 +5,9 @@ use Rattle.std.specs.List.{AllByRecursion, concat, filter}
 use Rattle.std.proofs.lemmas.List.{length-append}
 use Rattle.std.proofs.lemmas.List.Elements.{All-cons, All-head, All-tail}
 use Rattle.data_types.specs.FieldText.{IsValueOf}
-use Rattle.data_types.specs.Parts.{column_values, fields_of, member_columns}
-use Rattle.data_types.specs.Table.{Column, Row, Kind, Flat, Dict, Columns, Members, no_members, more_members}
-use Rattle.data_types.specs.Value.{Value, Null, byte_total, bytes_of}
+use Rattle.data_types.specs.promise.Parts.{column_values, fields_of, member_columns}
+use Rattle.data_types.specs.promise.Table.{Column, Row, Kind, Flat, Dict, Columns, Members, no_members, more_members}
+use Rattle.data_types.specs.promise.Value.{Value, Null, byte_total, bytes_of}
 use Rattle.stream_face.specs.Lawful.{AreFieldItems, AreItems, HasFields, IsTable, LawfulTables, total_rows}
 
 abbrev pub sifted : {X : Type 0} → List Bool → List X → List X

@@ -4,24 +4,27 @@ use Rattle.std.proofs.Common.{Result, Ok, Err, IfOk, ap, subst, arith}
 use Rattle.std.specs.Prelude.{if◌then◌else◌}
 use Rattle.std.proofs.lemmas.List.Elements.{All-head, All-tail}
 use Rattle.data_types.specs.ColumnForms.{AreColumnKinds}
-use Rattle.data_types.specs.ColumnView.{members}
-use Rattle.data_types.specs.Parts.{column_values, fields_of, member_columns, value_list}
-use Rattle.data_types.specs.Table.{Column, Row, Kind, Flat, Dict, Columns, Members, no_members, more_members}
-use Rattle.data_types.specs.Value.{Value, Null, Fields, values}
+use Rattle.data_types.specs.promise.ColumnView.{members}
+use Rattle.data_types.specs.promise.Parts.{column_values, fields_of, member_columns, value_list}
+use Rattle.data_types.specs.promise.Table.{Column, Row, Kind, Flat, Dict, Columns, Members, no_members, more_members}
+use Rattle.data_types.specs.promise.Value.{Value, Null, Fields, values}
 use Rattle.data_types.specs.declared.kind.DataType.{DataType}
 use Rattle.data_types.specs.declared.kind.DataType.TheVariants as kinds
-use Rattle.tree_model.specs.Tree.{Depth, Released, Live, IsLive, Trees, absent, child_at, children_of, depth_of_all, trees, tree_list}
+use Rattle.tree_model.specs.promise.TreeData.{Released, Live, Trees, absent, trees, tree_list}
+use Rattle.tree_model.specs.promise.TreeParts.{IsLive, child_at, children_of}
+use Rattle.tree_model.specs.Tree.{Depth, depth_of_all}
 use Rattle.tree_model.proofs.Lists.{tree_list-trees}
-use Rattle.unit_pass.specs.Tally.{Tally, risen}
+use Rattle.unit_pass.specs.promise.Tally.{risen}
+use Rattle.unit_pass.specs.Tally.{Tally}
 use Rattle.unit_pass.specs.declared.no_memory.NoMemory.{NoMemory}
-use Rattle.raw_array.specs.Members.{ArrayTree, members_of}
-use Rattle.arr_export.specs.ArrayTrees.{table_tree}
-use Rattle.data_types.specs.ColumnKinds.{table_type, type_of_column, type_of_columns, type_of_kind, types_of_columns, types_of_members}
-use Rattle.data_types.specs.KindTrees.{KindTree}
-use Rattle.layout_rules.specs.Layout.{end, first, is_valid}
-use Rattle.layout_rules.specs.Values.{field_items, readers, row_items, tree_items, value_at}
-use Rattle.layout_rules.specs.Walk.{LayoutOk}
-use Rattle.stage_model.specs.Traffic.{Moved, table_blocks}
+use Rattle.raw_array.specs.promise.Members.{ArrayTree, members_of}
+use Rattle.arr_export.specs.promise.ArrayTrees.{table_tree}
+use Rattle.data_types.specs.promise.ColumnKinds.{table_type, type_of_column, type_of_columns, type_of_kind, types_of_columns, types_of_members}
+use Rattle.data_types.specs.promise.KindTrees.{KindTree}
+use Rattle.layout_rules.specs.promise.Layout.{end, first, is_valid}
+use Rattle.layout_rules.specs.promise.Values.{field_items, readers, row_items, tree_items, value_at}
+use Rattle.layout_rules.specs.promise.Walk.{LayoutOk}
+use Rattle.stage_model.specs.promise.Traffic.{Moved, table_blocks}
 use Rattle.stream_face.specs.Lawful.{AreItems, DictsAreFull, HasFields, MemberDictsAreFull}
 use Rattle.column_fill.proofs.Counts.{kids-long}
 use Rattle.column_fill.specs.Gathered.{values_at}

@@ -5,19 +5,20 @@ use Rattle.std.proofs.lemmas.List.Sums.{sum_by-cons}
 use Rattle.std.specs.declared.vec.Vec.{Vec}
 use Rattle.std.specs.declared.alloc.Global.{Global}
 use Rattle.data_types.specs.ColumnForms.{AreColumnKinds, MembersAreColumns}
-use Rattle.data_types.specs.ColumnView.{column_of, kind_of, members}
-use Rattle.data_types.specs.Parts.{column_values, fields_of, member_columns}
-use Rattle.data_types.specs.Table.{Column, Row, Columns as StructOf, Members, no_members, more_members}
-use Rattle.data_types.specs.Value.{Value, Null}
+use Rattle.data_types.specs.promise.ColumnView.{members}
+use Rattle.data_types.specs.ColumnView.{column_of, kind_of}
+use Rattle.data_types.specs.promise.Parts.{column_values, fields_of, member_columns}
+use Rattle.data_types.specs.promise.Table.{Column, Row, Columns as StructOf, Members, no_members, more_members}
+use Rattle.data_types.specs.promise.Value.{Value, Null}
 use Rattle.data_types.specs.declared.kind.DataType.{DataType}
 use Rattle.data_types.specs.declared.kind.DataType.TheVariants as kinds
 use Rattle.data_types.specs.declared.kind.ColKind.{Columns}
 use Rattle.data_types.specs.declared.kind.ColKind.TheViews.{the_lemmas}
 use Rattle.data_types.specs.declared.kind.ColumnType.{ColumnType}
 use Rattle.data_types.proofs.StructColumns.{row_is}
-use Rattle.tree_model.specs.Tree.{Live, Trees, absent, more_trees, trees}
-use Rattle.data_types.specs.ColumnKinds.{type_of_columns, type_of_kind, types_of_columns, types_of_members}
-use Rattle.stage_model.specs.Traffic.{Dictionaries, blocks_from, kind_blocks, kind_nodes, member_blocks, member_nodes, member_values}
+use Rattle.tree_model.specs.promise.TreeData.{Live, Trees, absent, more_trees, trees}
+use Rattle.data_types.specs.promise.ColumnKinds.{type_of_columns, type_of_kind, types_of_columns, types_of_members}
+use Rattle.stage_model.specs.promise.Traffic.{Dictionaries, blocks_from, kind_blocks, kind_nodes, member_blocks, member_nodes, member_values}
 use Rattle.stream_face.specs.Lawful.{AreFieldItems, AreItems}
 use Rattle.stage_filter.specs.Plain.{most_of_columns, most_of_members}
 

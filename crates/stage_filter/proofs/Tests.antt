@@ -9,10 +9,10 @@ use Rattle.std.specs.declared.cmp.Ordering.TheVariants.{Less, Equal, Greater}
 use Rattle.std.specs.List.{filter}
 use Rattle.std.specs.Ordering.{is_some_and}
 use Rattle.std.specs.declared.cmp.Ordering.{Ordering}
-use Rattle.data_types.specs.Value.{Value, Null, Truth, Whole, Bits, Bytes, Items, Fields}
+use Rattle.data_types.specs.promise.Value.{Value, Null, Truth, Whole, Bits, Bytes, Items, Fields}
 use Rattle.arr_import.specs.Window.{Window, item_at}
-use Rattle.stage_model.specs.Stages.{compared, passes}
-use Rattle.stage_model.specs.Typing.{compares}
+use Rattle.stage_model.specs.promise.Stages.{compared, passes}
+use Rattle.stage_model.specs.promise.Typing.{compares}
 use Rattle.stage_model.specs.declared.stage.Const.{Const}
 use Rattle.stage_model.specs.declared.stage.Const.TheVariants as consts
 use Rattle.stage_model.specs.declared.stage.Test.{Test}

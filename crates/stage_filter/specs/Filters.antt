@@ -2,17 +2,18 @@
 use Rattle.std.specs.Prelude.{◌≡◌, ◌<◌, ◌≤◌, ◌^◌, ℕ, List, length, map, get_or, All}
 use Rattle.data_types.specs.ColumnForms.{AreColumnKinds}
 use Rattle.data_types.specs.ColumnView.{column_of}
-use Rattle.data_types.specs.Table.{Column, Row}
+use Rattle.data_types.specs.promise.Table.{Column, Row}
 use Rattle.data_types.specs.declared.kind.ColumnType.{ColumnType}
-use Rattle.tree_model.specs.Tree.{Depth, child_at}
+use Rattle.tree_model.specs.promise.TreeParts.{child_at}
+use Rattle.tree_model.specs.Tree.{Depth}
 use Rattle.unit_pass.specs.declared.pass.TheConstants.{CHUNK}
-use Rattle.raw_array.specs.Members.{ArrayTree}
-use Rattle.data_types.specs.ColumnKinds.{type_of_columns}
-use Rattle.data_types.specs.KindTrees.{KindTree}
-use Rattle.layout_rules.specs.Values.{rows_of, tree_items}
-use Rattle.layout_rules.specs.Walk.{ChunkOk}
+use Rattle.raw_array.specs.promise.Members.{ArrayTree}
+use Rattle.data_types.specs.promise.ColumnKinds.{type_of_columns}
+use Rattle.data_types.specs.promise.KindTrees.{KindTree}
+use Rattle.layout_rules.specs.promise.Values.{rows_of, tree_items}
+use Rattle.layout_rules.specs.promise.Walk.{ChunkOk}
 use Rattle.arr_import.specs.Window.{child_window, whole}
-use Rattle.stage_model.specs.Stages.{rows_after}
+use Rattle.stage_model.specs.promise.Stages.{rows_after}
 use Rattle.stage_model.specs.declared.stage.Const.{Const}
 use Rattle.stage_model.specs.declared.stage.Step.TheVariants as steps
 use Rattle.stage_model.specs.declared.stage.Test.{Test}

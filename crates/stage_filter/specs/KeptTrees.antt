@@ -1,15 +1,18 @@
 -- The arrays that are made of some items of an array, by numbers that are counted from an item of its window on: a struct is one
 -- of arrays of its columns ("Arrow Columnar Format", "Struct Layout" and "Dictionary-encoded Layout").
 use Rattle.std.specs.Prelude.{ℕ, ◌+◌, true, List, [], ◌∷◌, length, get_or, drop, None, Some}
-use Rattle.data_types.specs.Table.{Column, Kind, Flat, Dict, Columns, Members, no_members, more_members}
-use Rattle.data_types.specs.Value.{Value}
+use Rattle.data_types.specs.promise.Table.{Column, Kind, Flat, Dict, Columns, Members, no_members, more_members}
+use Rattle.data_types.specs.promise.Value.{Value}
 use Rattle.data_types.specs.declared.kind.DataType.{DataType}
 use Rattle.data_types.specs.declared.kind.DataType.TheVariants as kinds
-use Rattle.tree_model.specs.Tree.{Released, children_of, dictionary_at}
-use Rattle.raw_array.specs.Members.{ArrayTree, members_of}
-use Rattle.data_types.specs.ColumnKinds.{type_of_kind}
-use Rattle.layout_rules.specs.Layout.{first}
-use Rattle.arr_export.specs.ArrayTrees.{column_tree, flat_type, table_tree}
+use Rattle.tree_model.specs.promise.TreeData.{Released}
+use Rattle.tree_model.specs.promise.TreeParts.{children_of}
+use Rattle.tree_model.specs.Tree.{dictionary_at}
+use Rattle.raw_array.specs.promise.Members.{ArrayTree, members_of}
+use Rattle.data_types.specs.promise.ColumnKinds.{type_of_kind}
+use Rattle.layout_rules.specs.promise.Layout.{first}
+use Rattle.arr_export.specs.promise.ArrayTrees.{column_tree, table_tree}
+use Rattle.arr_export.specs.ArrayTrees.{flat_type}
 use Rattle.column_fill.specs.Gathered.{values_at}
 
 -- indices are signed numbers of 32 bits

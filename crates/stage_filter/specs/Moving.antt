@@ -2,17 +2,19 @@
 use Rattle.std.specs.Prelude.{◌≡◌, ◌+◌, ◌^◌, ◌<◌, ◌≤◌, ℕ, List, length, get_or, All}
 use Rattle.std.specs.List.{sum_by}
 use Rattle.data_types.specs.ColumnForms.{AreColumnKinds}
-use Rattle.data_types.specs.Parts.{column_values}
-use Rattle.data_types.specs.Table.{Column, Kind, Row}
-use Rattle.tree_model.specs.Tree.{Depth, child_at, children_of}
-use Rattle.unit_pass.specs.Tally.{Tally, risen}
+use Rattle.data_types.specs.promise.Parts.{column_values}
+use Rattle.data_types.specs.promise.Table.{Column, Kind, Row}
+use Rattle.tree_model.specs.promise.TreeParts.{child_at, children_of}
+use Rattle.tree_model.specs.Tree.{Depth}
+use Rattle.unit_pass.specs.promise.Tally.{risen}
+use Rattle.unit_pass.specs.Tally.{Tally}
 use Rattle.unit_pass.specs.declared.pass.TheConstants.{CHUNK}
-use Rattle.raw_array.specs.Members.{ArrayTree, Cost, members_of}
-use Rattle.data_types.specs.ColumnKinds.{type_of_columns, type_of_kind}
-use Rattle.layout_rules.specs.Layout.{first}
-use Rattle.layout_rules.specs.Values.{tree_items}
-use Rattle.layout_rules.specs.Walk.{LayoutOk}
-use Rattle.stage_model.specs.Traffic.{Moved, blocks_from, kind_blocks, kind_nodes, table_blocks, table_nodes}
+use Rattle.raw_array.specs.promise.Members.{ArrayTree, Cost, members_of}
+use Rattle.data_types.specs.promise.ColumnKinds.{type_of_columns, type_of_kind}
+use Rattle.layout_rules.specs.promise.Layout.{first}
+use Rattle.layout_rules.specs.promise.Values.{tree_items}
+use Rattle.layout_rules.specs.promise.Walk.{LayoutOk}
+use Rattle.stage_model.specs.promise.Traffic.{Moved, blocks_from, kind_blocks, kind_nodes, table_blocks, table_nodes}
 use Rattle.stream_face.specs.Lawful.{AreItems, DictsAreFull}
 use Rattle.column_fill.specs.Gathered.{values_at}
 use Rattle.stage_filter.specs.Kept.{rows_at}

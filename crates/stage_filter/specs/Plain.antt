@@ -1,6 +1,6 @@
 -- What new arrays of columns draw at most.
 use Rattle.std.specs.Prelude.{ℕ, ◌+◌, List, [], ◌∷◌}
-use Rattle.data_types.specs.Table.{Column, Kind, Flat, Dict, Columns, Members, no_members, more_members}
+use Rattle.data_types.specs.promise.Table.{Column, Kind, Flat, Dict, Columns, Members, no_members, more_members}
 
 abbrev mutual
   -- the units that a new array draws: a node and at most three buffers of values or indices, and a node of a struct. A dictionary

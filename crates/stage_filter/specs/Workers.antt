@@ -2,14 +2,14 @@
 use Rattle.std.specs.Prelude.{◌≡◌, ℕ, ◌-◌, ◌<◌, ◌≤◌, ◌^◌, List, [], length, get_or, Vec}
 use Rattle.std.specs.Global.{Global}
 use Rattle.std.specs.List.{filter}
-use Rattle.data_types.specs.Table.{Row}
-use Rattle.data_types.specs.Value.{Null}
-use Rattle.tree_model.specs.Tree.{children_of}
-use Rattle.data_types.specs.KindTrees.{KindTree}
-use Rattle.layout_rules.specs.Layout.{natural}
+use Rattle.data_types.specs.promise.Table.{Row}
+use Rattle.data_types.specs.promise.Value.{Null}
+use Rattle.tree_model.specs.promise.TreeParts.{children_of}
+use Rattle.data_types.specs.promise.KindTrees.{KindTree}
+use Rattle.layout_rules.specs.promise.Layout.{natural}
 use Rattle.arr_import.specs.Window.{IsStruct}
 use Rattle.fan_out.specs.Pieces.{GivesPieces}
-use Rattle.stage_model.specs.Stages.{passes}
+use Rattle.stage_model.specs.promise.Stages.{passes}
 use Rattle.stage_model.specs.declared.stage.Const.{Const}
 use Rattle.stage_model.specs.declared.stage.Test.{Test}
 use Rattle.stage_filter.specs.Kept.{numbers}

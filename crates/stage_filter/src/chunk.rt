@@ -1,13 +1,14 @@
 //! The chunk of the rows of a chunk that pass.
 ghost use Rattle.std.specs.Prelude.{◌≡◌, ◌+◌, ◌*◌, ◌≤◌, map, IfOk, MatchResult, OnOk};
 ghost use Rattle.data_types.specs.ColumnView.{column_of};
-ghost use Rattle.unit_pass.specs.Tally.{risen};
+ghost use Rattle.unit_pass.specs.promise.Tally.{risen};
 ghost use Rattle.unit_pass.specs.declared.pass.TheConstants.{SUPPLY};
-ghost use Rattle.raw_array.specs.Members.{ArrayTree, Cost, Like};
-ghost use Rattle.data_types.specs.ColumnKinds.{type_of_columns};
+ghost use Rattle.raw_array.specs.promise.Members.{ArrayTree, Cost};
+ghost use Rattle.raw_array.specs.Members.{Like};
+ghost use Rattle.data_types.specs.promise.ColumnKinds.{type_of_columns};
 ghost use Rattle.data_types.specs.KindTrees.{TypedOk};
-ghost use Rattle.data_types.specs.TypedView.{typed_of};
-ghost use Rattle.stage_model.specs.Traffic.{Moved, table_blocks, table_nodes};
+ghost use Rattle.data_types.specs.promise.TypedView.{typed_of};
+ghost use Rattle.stage_model.specs.promise.Traffic.{Moved, table_blocks, table_nodes};
 ghost use Rattle.stage_filter.specs.Filters.{CanFilter, passing_numbers, passing_rows};
 ghost use Rattle.stage_filter.specs.KeptTrees.{kept_chunk};
 ghost use Rattle.stage_filter.specs.Plain.{most_of_columns};

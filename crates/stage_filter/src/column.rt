@@ -1,11 +1,11 @@
 //! A new column of some items of a column of values.
 ghost use Rattle.std.specs.Prelude.{◌≡◌, ◌+◌, ◌≤◌, IfOk, OnErr};
-ghost use Rattle.data_types.specs.Table.{Flat};
+ghost use Rattle.data_types.specs.promise.Table.{Flat};
 ghost use Rattle.unit_pass.specs.declared.pass.TheConstants.{SUPPLY};
-ghost use Rattle.raw_array.specs.Members.{Cost};
-ghost use Rattle.data_types.specs.ColumnKinds.{type_of_kind};
+ghost use Rattle.raw_array.specs.promise.Members.{Cost};
+ghost use Rattle.data_types.specs.promise.ColumnKinds.{type_of_kind};
 ghost use Rattle.data_types.specs.KindTrees.{TypedOk};
-ghost use Rattle.data_types.specs.TypedView.{typed_of};
+ghost use Rattle.data_types.specs.promise.TypedView.{typed_of};
 ghost use Rattle.stage_filter.specs.Moving.{CanMove, IsFiltered};
 
 use column_fill::{built_column, gathered};

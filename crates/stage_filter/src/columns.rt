@@ -1,13 +1,16 @@
 //! New columns of some items of columns, at all depths, in the place of the columns.
 ghost use Rattle.std.specs.Prelude.{◌≡◌, ◌+◌, ◌<◌, ◌≤◌, ◌≤ℤ◌, pos, [], length, map, vec_capacity, IfOk, OnOk, OnErr};
 ghost use Rattle.data_types.specs.ColumnView.{column_of, kind_of};
-ghost use Rattle.tree_model.specs.Tree.{Released, child_at, children_of, trees, with_child};
+ghost use Rattle.tree_model.specs.promise.TreeData.{Released, trees};
+ghost use Rattle.tree_model.specs.promise.TreeParts.{child_at, children_of};
+ghost use Rattle.tree_model.specs.Tree.{with_child};
 ghost use Rattle.unit_pass.specs.declared.pass.TheConstants.{SUPPLY};
-ghost use Rattle.raw_array.specs.Members.{Cost, cost_of_all, members_of};
-ghost use Rattle.data_types.specs.ColumnKinds.{type_of_columns, type_of_kind};
+ghost use Rattle.raw_array.specs.promise.Members.{Cost, members_of};
+ghost use Rattle.raw_array.specs.Members.{cost_of_all};
+ghost use Rattle.data_types.specs.promise.ColumnKinds.{type_of_columns, type_of_kind};
 ghost use Rattle.data_types.specs.KindTrees.{TypedOk};
-ghost use Rattle.layout_rules.specs.Layout.{first};
-ghost use Rattle.data_types.specs.TypedView.{typed_of};
+ghost use Rattle.layout_rules.specs.promise.Layout.{first};
+ghost use Rattle.data_types.specs.promise.TypedView.{typed_of};
 ghost use Rattle.stage_filter.specs.Kept.{rows_at};
 ghost use Rattle.stage_filter.specs.Moving.{AreFiltered, CanMove, CanMoveRows, IsFiltered, IsFilteredStruct};
 ghost use Rattle.stage_filter.specs.Plain.{most_cost, most_of_columns};

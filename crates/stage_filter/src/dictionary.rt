@@ -1,9 +1,10 @@
 //! A new column of some items of a column with a dictionary: it has their indices, and the dictionary is moved.
 ghost use Rattle.std.specs.Prelude.{◌≡◌, ◌+◌, ◌≤◌, IfOk, OnErr};
-ghost use Rattle.data_types.specs.Table.{Dict};
-ghost use Rattle.tree_model.specs.Tree.{IsLive, dictionary_at};
+ghost use Rattle.data_types.specs.promise.Table.{Dict};
+ghost use Rattle.tree_model.specs.promise.TreeParts.{IsLive};
+ghost use Rattle.tree_model.specs.Tree.{dictionary_at};
 ghost use Rattle.unit_pass.specs.declared.pass.TheConstants.{SUPPLY};
-ghost use Rattle.raw_array.specs.Members.{Cost};
+ghost use Rattle.raw_array.specs.promise.Members.{Cost};
 ghost use Rattle.stage_filter.specs.Moving.{CanMove, IsFiltered};
 
 use crate::indices::moved_indices;

@@ -1,13 +1,14 @@
 //! The indices of some items of a column with a dictionary.
 ghost use Rattle.std.specs.Prelude.{◌≡◌, ◌==◌, ◌+◌, ◌*◌, ◌<◌, ◌≤◌, ◌≤ℤ◌, pos, length, IfOk, OnOk};
-ghost use Rattle.data_types.specs.Table.{Dict};
+ghost use Rattle.data_types.specs.promise.Table.{Dict};
 ghost use Rattle.data_types.specs.declared.kind.DataType.{DataType as AType};
-ghost use Rattle.data_types.specs.Packed.{bit};
+ghost use Rattle.data_types.specs.promise.Packed.{bit};
 ghost use Rattle.col_build.specs.Holding.{Adds, Holds, HoldsWholes, Takes};
-ghost use Rattle.tree_model.specs.Tree.{IsLive};
-ghost use Rattle.raw_array.specs.Members.{members_of};
-ghost use Rattle.layout_rules.specs.Layout.{IsLong, buffer, bytes, first, is_valid_by};
-ghost use Rattle.layout_rules.specs.Rules.{window_limit};
+ghost use Rattle.tree_model.specs.promise.TreeParts.{IsLive};
+ghost use Rattle.raw_array.specs.promise.Members.{members_of};
+ghost use Rattle.layout_rules.specs.promise.Layout.{buffer, bytes, first, is_valid_by};
+ghost use Rattle.layout_rules.specs.Layout.{IsLong};
+ghost use Rattle.layout_rules.specs.promise.Rules.{window_limit};
 ghost use Rattle.arr_import.specs.Lent.{lent_bytes};
 ghost use Rattle.stage_filter.specs.Kept.{index_in};
 ghost use Rattle.stage_filter.specs.KeptTrees.{index_type, indices_at};

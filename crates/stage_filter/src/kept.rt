@@ -1,10 +1,10 @@
 //! Which items of a column pass a test.
 ghost use Rattle.std.specs.Prelude.{◌≡◌, ◌≢◌, ◌-◌, ◌<◌, ◌≤◌, ℕ, List, true, false, IfNone, IfOk, IfSome};
-ghost use Rattle.data_types.specs.Value.{Value, Bytes, is_null};
+ghost use Rattle.data_types.specs.promise.Value.{Value, Bytes, is_null};
 ghost use Rattle.arr_import.specs.Cols.{window_of};
 ghost use Rattle.arr_import.specs.Window.{item_at};
-ghost use Rattle.stage_model.specs.Stages.{compared, passes};
-ghost use Rattle.stage_model.specs.Typing.{compares};
+ghost use Rattle.stage_model.specs.promise.Stages.{compared, passes};
+ghost use Rattle.stage_model.specs.promise.Typing.{compares};
 ghost use Rattle.stage_model.specs.declared.stage.Const.{Const as AConst};
 ghost use Rattle.stage_model.specs.declared.stage.Const.TheVariants as consts;
 ghost use Rattle.stage_filter.specs.Kept.{equality, kept_numbers, order_passes};

@@ -1,13 +1,15 @@
 //! What the chunks that are made of rows of a chunk mean.
 ghost use Rattle.std.specs.Prelude.{◌≡◌, ◌<◌, ℕ, List, length, get_or};
-ghost use Rattle.data_types.specs.Table.{Column, Dict};
+ghost use Rattle.data_types.specs.promise.Table.{Column, Dict};
 ghost use Rattle.data_types.specs.declared.kind.DataType.{DataType as AType};
-ghost use Rattle.tree_model.specs.Tree.{child_at, dictionary_at};
-ghost use Rattle.raw_array.specs.Members.{ArrayTree, Cost, Like};
-ghost use Rattle.data_types.specs.ColumnKinds.{type_of_columns};
-ghost use Rattle.data_types.specs.KindTrees.{KindTree};
-ghost use Rattle.layout_rules.specs.Values.{rows_of, values_of};
-ghost use Rattle.layout_rules.specs.Walk.{ChunkOk};
+ghost use Rattle.tree_model.specs.promise.TreeParts.{child_at};
+ghost use Rattle.tree_model.specs.Tree.{dictionary_at};
+ghost use Rattle.raw_array.specs.promise.Members.{ArrayTree, Cost};
+ghost use Rattle.raw_array.specs.Members.{Like};
+ghost use Rattle.data_types.specs.promise.ColumnKinds.{type_of_columns};
+ghost use Rattle.data_types.specs.promise.KindTrees.{KindTree};
+ghost use Rattle.layout_rules.specs.promise.Values.{rows_of, values_of};
+ghost use Rattle.layout_rules.specs.promise.Walk.{ChunkOk};
 ghost use Rattle.stream_face.specs.Lawful.{DictsAreFull};
 ghost use Rattle.stage_filter.specs.Kept.{rows_at};
 ghost use Rattle.stage_filter.specs.KeptTrees.{kept_chunk};

@@ -1,12 +1,13 @@
 //! The numbers of the rows of a chunk that pass, which workers find piece by piece.
 ghost use Rattle.std.specs.Prelude.{◌≡◌, ◌*◌, ◌-◌, ◌≤◌, length, vec_len, IfOk};
 ghost use Rattle.std.specs.List.{flat_map};
-ghost use Rattle.raw_array.specs.Members.{Cost, Like};
+ghost use Rattle.raw_array.specs.promise.Members.{Cost};
+ghost use Rattle.raw_array.specs.Members.{Like};
 ghost use Rattle.data_types.specs.KindTrees.{TypedOk};
-ghost use Rattle.layout_rules.specs.Layout.{natural};
-ghost use Rattle.data_types.specs.TypedView.{typed_of};
-ghost use Rattle.layout_rules.specs.Values.{rows_of, tree_items};
-ghost use Rattle.layout_rules.specs.Walk.{ChunkOk};
+ghost use Rattle.layout_rules.specs.promise.Layout.{natural};
+ghost use Rattle.data_types.specs.promise.TypedView.{typed_of};
+ghost use Rattle.layout_rules.specs.promise.Values.{rows_of, tree_items};
+ghost use Rattle.layout_rules.specs.promise.Walk.{ChunkOk};
 ghost use Rattle.arr_import.specs.Window.{child_window, whole};
 ghost use Rattle.stage_filter.specs.Kept.{kept_numbers};
 ghost use Rattle.stage_filter.specs.Workers.{HaveColumn, row_numbers};

@@ -2,19 +2,23 @@
 use Rattle.std.proofs.Common.{arith, ◌≡◌, ◌≤◌, ◌<◌, ◌+◌, ◌*◌, ◌∙◌, ◌++◌, ◌⊎◌, inl, inr, ℕ, zero, suc, ◌^◌, true, List, [], ◌∷◌, length, map, get_or}
 use Rattle.std.proofs.Common.{refl, sym, ap, subst}
 use Rattle.std.proofs.lemmas.List.{length-map, length_push, get_or_push, get_or_append_left}
-use Rattle.unit_pass.specs.Tally.{Tally, risen}
+use Rattle.unit_pass.specs.promise.Tally.{risen}
+use Rattle.unit_pass.specs.Tally.{Tally}
 use Rattle.unit_pass.specs.declared.pass.TheConstants.{CHUNK}
-use Rattle.data_types.specs.ColumnView.{column_of, members}
-use Rattle.data_types.specs.Parts.{AreWithin, packed, packed_columns}
-use Rattle.data_types.specs.Table.{Column, Row}
+use Rattle.data_types.specs.promise.ColumnView.{members}
+use Rattle.data_types.specs.ColumnView.{column_of}
+use Rattle.data_types.specs.promise.Parts.{packed, packed_columns}
+use Rattle.data_types.specs.Parts.{AreWithin}
+use Rattle.data_types.specs.promise.Table.{Column, Row}
 use Rattle.data_types.specs.declared.kind.ColumnType.{ColumnType}
-use Rattle.tree_model.specs.Tree.{Released, IsLive, child_at}
+use Rattle.tree_model.specs.promise.TreeData.{Released}
+use Rattle.tree_model.specs.promise.TreeParts.{IsLive, child_at}
 use Rattle.tree_model.proofs.Lists.{tree_list-trees}
-use Rattle.raw_array.specs.Members.{ArrayTree, Cost, members_of}
-use Rattle.data_types.specs.ColumnKinds.{type_of_columns}
-use Rattle.data_types.specs.KindTrees.{KindTree}
-use Rattle.layout_rules.specs.Values.{rows_of}
-use Rattle.layout_rules.specs.Walk.{ChunkOk}
+use Rattle.raw_array.specs.promise.Members.{ArrayTree, Cost, members_of}
+use Rattle.data_types.specs.promise.ColumnKinds.{type_of_columns}
+use Rattle.data_types.specs.promise.KindTrees.{KindTree}
+use Rattle.layout_rules.specs.promise.Values.{rows_of}
+use Rattle.layout_rules.specs.promise.Walk.{ChunkOk}
 use Rattle.arr_move.specs.TreeActs.{Columns}
 use Rattle.array_laws.specs.Picking.{Packed}
 use Rattle.stream_face.specs.Lawful.{DictsAreFull, MemberDictsAreFull, column_leaves}

@@ -2,17 +2,21 @@
 use Rattle.std.proofs.Common.{arith, ◌≡◌, ◌≢◌, ◌≤◌, ◌<◌, ◌+◌, ◌∙◌, ◌++◌, ℕ, zero, suc, ℤ, pos, ◌≤ℤ◌, List, [], ◌∷◌, length, map, get_or, All}
 use Rattle.std.proofs.Common.{refl, sym, ap, subst}
 use Rattle.std.proofs.lemmas.List.{get_or_append_left, get_or-append-add, length-append}
-use Rattle.tree_model.specs.Tree.{Depth, IsLive, Released, Live, absent, child_at, children_of, depth_of_all, trees, with_child}
+use Rattle.tree_model.specs.promise.TreeParts.{IsLive, child_at, children_of}
+use Rattle.tree_model.specs.promise.TreeData.{Released, Live, absent, trees}
+use Rattle.tree_model.specs.Tree.{Depth, depth_of_all, with_child}
 use Rattle.tree_model.proofs.Parted.{length-child}
-use Rattle.raw_array.specs.Members.{ArrayTree, Cost, cost_of_all, members_of}
+use Rattle.raw_array.specs.promise.Members.{ArrayTree, Cost, members_of}
+use Rattle.raw_array.specs.Members.{cost_of_all}
 use Rattle.raw_array.specs.Windows.{Window, FitsWindow}
 use Rattle.raw_array.proofs.Windows.{Depth-Window}
-use Rattle.layout_rules.specs.Layout.{natural}
-use Rattle.layout_rules.specs.Values.{tree_items}
+use Rattle.layout_rules.specs.promise.Layout.{natural}
+use Rattle.layout_rules.specs.promise.Values.{tree_items}
 use Rattle.arr_move.specs.TreeActs.{Distinct, FitParentWindow, InRange, struct_members}
 use Rattle.arr_move.proofs.Filled.{Depth-child_at}
 use Rattle.arr_move.proofs.Moving.{other_child}
-use Rattle.arr_export.specs.ArrayTrees.{IsColumn, table_tree}
+use Rattle.arr_export.specs.promise.ArrayTrees.{table_tree}
+use Rattle.arr_export.specs.ArrayTrees.{IsColumn}
 use Rattle.array_laws.specs.Picking.{Packed}
 use Rattle.stages.proofs.CutColumns.{ItemsLaw, natural-is, window-live}
 use Rattle.stage_kernels.specs.Packs.{LeftOf, column_in}

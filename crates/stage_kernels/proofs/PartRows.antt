@@ -4,9 +4,9 @@ use Rattle.std.specs.List.{AllByRecursion, concat}
 use Rattle.std.proofs.lemmas.List.{length-append}
 use Rattle.std.proofs.lemmas.List.Elements.{All-from_recursion, recursion_from_All}
 use Rattle.data_types.specs.FieldText.{IsValueOf}
-use Rattle.data_types.specs.Parts.{column_values, fields_of, member_columns}
-use Rattle.data_types.specs.Table.{Column, Row, Kind, Flat, Dict, Columns as StructOf, Members, no_members, more_members}
-use Rattle.data_types.specs.Value.{Value, Null, byte_total, bytes_of}
+use Rattle.data_types.specs.promise.Parts.{column_values, fields_of, member_columns}
+use Rattle.data_types.specs.promise.Table.{Column, Row, Kind, Flat, Dict, Columns as StructOf, Members, no_members, more_members}
+use Rattle.data_types.specs.promise.Value.{Value, Null, byte_total, bytes_of}
 use Rattle.data_types.specs.declared.kind.DataType.{DataType}
 use Rattle.stream_face.specs.Lawful.{AreFieldItems, AreItems, AreValues, HasFields, IsTable}
 

@@ -5,17 +5,19 @@ use Rattle.std.proofs.Math.Logic.{∥∥₁_elim}
 use Rattle.std.proofs.Props.{props}
 use Rattle.data_types.specs.ColumnView.{column_of}
 use Rattle.data_types.specs.Parts.{AreWithin}
-use Rattle.data_types.specs.Table.{Column, Row}
+use Rattle.data_types.specs.promise.Table.{Column, Row}
 use Rattle.data_types.specs.declared.kind.ColumnType.{ColumnType}
-use Rattle.tree_model.specs.Tree.{Released, IsLive, child_at}
+use Rattle.tree_model.specs.promise.TreeData.{Released}
+use Rattle.tree_model.specs.promise.TreeParts.{IsLive, child_at}
 use Rattle.tree_model.proofs.Lists.{tree_list-trees}
-use Rattle.raw_array.specs.Members.{ArrayTree, Cost, members_of}
+use Rattle.raw_array.specs.promise.Members.{ArrayTree, Cost, members_of}
 use Rattle.raw_array.specs.Windows.{Window}
-use Rattle.unit_pass.specs.Tally.{Tally, risen}
-use Rattle.data_types.specs.KindTrees.{KindTree}
-use Rattle.layout_rules.specs.Walk.{ChunkOk}
-use Rattle.layout_rules.specs.Values.{rows_of}
-use Rattle.data_types.specs.ColumnKinds.{type_of_columns}
+use Rattle.unit_pass.specs.promise.Tally.{risen}
+use Rattle.unit_pass.specs.Tally.{Tally}
+use Rattle.data_types.specs.promise.KindTrees.{KindTree}
+use Rattle.layout_rules.specs.promise.Walk.{ChunkOk}
+use Rattle.layout_rules.specs.promise.Values.{rows_of}
+use Rattle.data_types.specs.promise.ColumnKinds.{type_of_columns}
 use Rattle.arr_move.specs.TreeActs.{Columns, Distinct, cut}
 use Rattle.stream_face.specs.Lawful.{DictsAreFull, IsChunkOf}
 use Rattle.stages.specs.Steps.{GivesOut, IsNext}

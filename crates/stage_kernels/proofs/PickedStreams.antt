@@ -5,15 +5,18 @@ use Rattle.std.proofs.Math.Logic.{∥∥₁_elim}
 use Rattle.std.proofs.Props.{props}
 use Rattle.std.proofs.lemmas.List.{length-map}
 use Rattle.data_types.specs.ColumnForms.{AreColumnKinds}
-use Rattle.data_types.specs.Parts.{column_values, AreWithin, picked}
-use Rattle.data_types.specs.Table.{Column, Row}
-use Rattle.data_types.specs.Value.{Value, Null}
+use Rattle.data_types.specs.promise.Parts.{column_values, picked}
+use Rattle.data_types.specs.Parts.{AreWithin}
+use Rattle.data_types.specs.promise.Table.{Column, Row}
+use Rattle.data_types.specs.promise.Value.{Value, Null}
 use Rattle.data_types.specs.declared.kind.ColumnType.{ColumnType}
-use Rattle.tree_model.specs.Tree.{Depth, trees, depth_of_all}
-use Rattle.raw_schema.specs.Members.{Nodes, nodes_of_all}
-use Rattle.data_types.specs.ColumnKinds.{type_of_column, type_of_columns, types_of_columns}
-use Rattle.schema_check.specs.ColumnSchema.{SchemaOf, schema_of_column}
-use Rattle.schema_check.specs.Schemas.{KidsTyped, TypedFrom, TypedOf}
+use Rattle.tree_model.specs.promise.TreeData.{trees}
+use Rattle.tree_model.specs.Tree.{Depth, depth_of_all}
+use Rattle.tree_model.specs.promise.TreeCost.{Nodes}
+use Rattle.raw_schema.specs.Members.{nodes_of_all}
+use Rattle.data_types.specs.promise.ColumnKinds.{type_of_column, type_of_columns, types_of_columns}
+use Rattle.schema_check.specs.promise.ColumnSchema.{SchemaOf, schema_of_column}
+use Rattle.schema_check.specs.promise.Schemas.{KidsTyped, TypedFrom, TypedOf}
 use Rattle.arr_move.specs.TreeActs.{Distinct}
 use Rattle.stream_face.specs.Lawful.{AreItems, DictsHaveBytes, IsTable, LawfulColumns, LawfulTables, leaves, total_rows}
 use Rattle.stages.proofs.PickedColumns.{all-picked, as-many, column-at, first-within, leaves-are, rest-within, sum-picked, total}

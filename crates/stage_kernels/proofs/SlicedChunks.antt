@@ -5,16 +5,19 @@ use Rattle.std.specs.Prelude.{nat_le, nat_lt}
 use Rattle.std.proofs.lemmas.Bool.{cases_eq, cases_lt, eq-eqb, le-leb, le-ltb, lt-leb, lt-ltb, ne_eqb}
 use Rattle.std.proofs.lemmas.List.{length-drop, length-take}
 use Rattle.data_types.specs.ColumnView.{column_of}
-use Rattle.data_types.specs.Table.{Column, Row}
+use Rattle.data_types.specs.promise.Table.{Column, Row}
 use Rattle.data_types.specs.declared.kind.ColumnType.{ColumnType}
-use Rattle.tree_model.specs.Tree.{IsLive, Live, Released, children_of}
-use Rattle.raw_array.specs.Members.{ArrayTree, Cost, windowed}
+use Rattle.tree_model.specs.promise.TreeParts.{IsLive, children_of}
+use Rattle.tree_model.specs.promise.TreeData.{Live, Released}
+use Rattle.raw_array.specs.promise.Members.{ArrayTree, Cost}
+use Rattle.raw_array.specs.Members.{windowed}
 use Rattle.raw_array.specs.Windows.{Window, is_whole}
-use Rattle.data_types.specs.ColumnKinds.{type_of_columns}
-use Rattle.data_types.specs.KindTrees.{KindTree}
-use Rattle.layout_rules.specs.Values.{rows_of, tree_items}
-use Rattle.layout_rules.specs.Walk.{ChunkOk, LayoutOk}
-use Rattle.stage_model.specs.Stages.{is_within, sliced, sliced_chunks, unless_empty, window_end, window_start}
+use Rattle.data_types.specs.promise.ColumnKinds.{type_of_columns}
+use Rattle.data_types.specs.promise.KindTrees.{KindTree}
+use Rattle.layout_rules.specs.promise.Values.{rows_of, tree_items}
+use Rattle.layout_rules.specs.promise.Walk.{ChunkOk, LayoutOk}
+use Rattle.stage_model.specs.promise.Stages.{is_within, sliced, sliced_chunks, unless_empty}
+use Rattle.stage_model.specs.Stages.{window_end, window_start}
 use Rattle.stream_face.specs.Lawful.{DictsAreFull, IsChunkOf}
 use Rattle.unit_pass.specs.Tally.{Tally}
 use Rattle.stages.specs.Steps.{IsNext, Pushes}

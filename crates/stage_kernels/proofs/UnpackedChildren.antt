@@ -3,21 +3,26 @@ use Rattle.std.proofs.Common.{arith, ◌≡◌, ◌≤◌, ◌<◌, ◌+◌, ◌
 use Rattle.std.proofs.Common.{refl, sym, ap, subst}
 use Rattle.std.proofs.lemmas.Int.{ints}
 use Rattle.std.proofs.lemmas.List.{get_or-map, length-map, get_or_default, length-drop, take-map, drop-map, take_rest}
-use Rattle.data_types.specs.Parts.{member_columns, unpacked_columns}
-use Rattle.data_types.specs.Table.{Column, Columns as StructOf, Members}
-use Rattle.tree_model.specs.Tree.{Depth, depth_of_all, IsLive, Released, Live, absent, children_of, child_at, trees, tree_list}
+use Rattle.data_types.specs.promise.Parts.{member_columns, unpacked_columns}
+use Rattle.data_types.specs.promise.Table.{Column, Columns as StructOf, Members}
+use Rattle.tree_model.specs.promise.TreeParts.{IsLive, children_of, child_at}
+use Rattle.tree_model.specs.promise.TreeData.{Released, Live, absent, trees, tree_list}
+use Rattle.tree_model.specs.Tree.{Depth, depth_of_all}
 use Rattle.tree_model.proofs.Lists.{tree_list-trees, trees-tree_list}
 use Rattle.tree_model.proofs.Measures.{Depth-get_or}
-use Rattle.raw_array.specs.Members.{ArrayTree, Cost, cost_of_all, members_of}
+use Rattle.raw_array.specs.promise.Members.{ArrayTree, Cost, members_of}
+use Rattle.raw_array.specs.Members.{cost_of_all}
 use Rattle.raw_array.specs.Windows.{Window}
-use Rattle.data_types.specs.KindTrees.{KindTree}
-use Rattle.layout_rules.specs.Layout.{end, first, items, natural}
-use Rattle.layout_rules.specs.Walk.{ChunkOk, LayoutOk}
-use Rattle.data_types.specs.ColumnKinds.{table_type, type_of_column, type_of_columns, type_of_kind, types_of_columns}
-use Rattle.arr_export.specs.ArrayTrees.{IsColumn, table_tree}
+use Rattle.data_types.specs.promise.KindTrees.{KindTree}
+use Rattle.layout_rules.specs.promise.Layout.{end, first, items, natural}
+use Rattle.layout_rules.specs.promise.Walk.{ChunkOk, LayoutOk}
+use Rattle.data_types.specs.promise.ColumnKinds.{table_type, type_of_column, type_of_columns, type_of_kind, types_of_columns}
+use Rattle.arr_export.specs.promise.ArrayTrees.{table_tree}
+use Rattle.arr_export.specs.ArrayTrees.{IsColumn}
 use Rattle.arr_move.specs.TreeActs.{struct_members}
 use Rattle.array_laws.specs.Picking.{AreLive, Unpacked, cut_children}
-use Rattle.stage_model.specs.Typing.{column_at, no_column}
+use Rattle.stage_model.specs.promise.Typing.{no_column}
+use Rattle.stage_model.specs.Typing.{column_at}
 use Rattle.arr_move.proofs.MovedChildren.{cut-at, cut_to}
 use Rattle.stages.proofs.StructChildren.{StructLaws, shown}
 use Rattle.stage_kernels.specs.Unpacks.{HasStruct, ShowsInner}

@@ -8,16 +8,19 @@ use Rattle.std.proofs.Props.{props}
 use Rattle.std.proofs.lemmas.List.{length-map}
 use Rattle.data_types.specs.ColumnForms.{AreColumnKinds, MembersAreColumns}
 use Rattle.data_types.specs.ColumnView.{column_of}
-use Rattle.data_types.specs.Parts.{column_values, fields_of, member_columns, unpacked, unpacked_columns}
-use Rattle.data_types.specs.Table.{Column, Row, Kind, Columns, Members, no_members, more_members}
-use Rattle.data_types.specs.Value.{Value, Null, Truth, Whole, Bits, Bytes, Items, Fields}
+use Rattle.data_types.specs.promise.Parts.{column_values, fields_of, member_columns, unpacked, unpacked_columns}
+use Rattle.data_types.specs.promise.Table.{Column, Row, Kind, Columns, Members, no_members, more_members}
+use Rattle.data_types.specs.promise.Value.{Value, Null, Truth, Whole, Bits, Bytes, Items, Fields}
 use Rattle.data_types.specs.declared.kind.ColumnType.{ColumnType}
-use Rattle.tree_model.specs.Tree.{Depth, trees, more_trees, depth_of_all}
-use Rattle.raw_schema.specs.Members.{Nodes, nodes_of_all}
-use Rattle.data_types.specs.ColumnKinds.{type_of_columns}
-use Rattle.schema_check.specs.ColumnSchema.{SchemaOf, schema_of_column, member_schemas}
-use Rattle.schema_check.specs.Schemas.{TypedOf}
-use Rattle.stage_model.specs.Typing.{column_at, no_column, struct_members}
+use Rattle.tree_model.specs.promise.TreeData.{trees, more_trees}
+use Rattle.tree_model.specs.Tree.{Depth, depth_of_all}
+use Rattle.tree_model.specs.promise.TreeCost.{Nodes}
+use Rattle.raw_schema.specs.Members.{nodes_of_all}
+use Rattle.data_types.specs.promise.ColumnKinds.{type_of_columns}
+use Rattle.schema_check.specs.promise.ColumnSchema.{SchemaOf, schema_of_column, member_schemas}
+use Rattle.schema_check.specs.promise.Schemas.{TypedOf}
+use Rattle.stage_model.specs.promise.Typing.{no_column, struct_members}
+use Rattle.stage_model.specs.Typing.{column_at}
 use Rattle.stream_face.specs.Lawful.{AreFieldItems, AreItems, DictsHaveBytes, HasFields, IsTable, LawfulColumns, LawfulTables, MemberDictsHaveBytes}
 use Rattle.stream_face.specs.Lawful.{column_leaves, leaves, member_leaves, total_rows}
 use Rattle.stages.proofs.CodedColumns.{coded_columns, coded_kind}

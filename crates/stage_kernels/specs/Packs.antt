@@ -1,13 +1,14 @@
 -- Columns that go under a new struct, behind those that stay.
 use Rattle.std.specs.Prelude.{◌≡◌, ◌≢◌, ◌≤◌, ◌<◌, ◌++◌, ℕ, List, length, map, get_or}
 use Rattle.data_types.specs.ColumnView.{column_of}
-use Rattle.data_types.specs.Parts.{AreWithin, packed_columns}
-use Rattle.data_types.specs.Table.{Column}
+use Rattle.data_types.specs.promise.Parts.{packed_columns}
+use Rattle.data_types.specs.Parts.{AreWithin}
+use Rattle.data_types.specs.promise.Table.{Column}
 use Rattle.data_types.specs.declared.kind.ColumnType.{ColumnType}
-use Rattle.tree_model.specs.Tree.{child_at, children_of}
-use Rattle.raw_array.specs.Members.{ArrayTree, members_of}
+use Rattle.tree_model.specs.promise.TreeParts.{child_at, children_of}
+use Rattle.raw_array.specs.promise.Members.{ArrayTree, members_of}
 use Rattle.arr_move.specs.TreeActs.{Distinct, cut}
-use Rattle.stage_model.specs.Typing.{no_column}
+use Rattle.stage_model.specs.promise.Typing.{no_column}
 use Rattle.stages.specs.Structs.{column_structs, most_structs}
 
 -- different numbers of these columns, of which there are few structs; and the columns that are kept are those that stay, and

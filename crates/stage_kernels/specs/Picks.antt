@@ -2,12 +2,13 @@
 use Rattle.std.specs.Prelude.{◌≡◌, ℕ, List, length, map}
 use Rattle.data_types.specs.declared.kind.ColumnType.{ColumnType}
 use Rattle.data_types.specs.ColumnView.{column_of}
-use Rattle.data_types.specs.Parts.{AreWithin, picked}
-use Rattle.data_types.specs.Table.{Column, Row}
-use Rattle.data_types.specs.Value.{Null}
+use Rattle.data_types.specs.promise.Parts.{picked}
+use Rattle.data_types.specs.Parts.{AreWithin}
+use Rattle.data_types.specs.promise.Table.{Column, Row}
+use Rattle.data_types.specs.promise.Value.{Null}
 use Rattle.arr_move.specs.TreeActs.{Distinct}
 -- stands for a column that isn't there
-pub use Rattle.stage_model.specs.Typing.{no_column}
+pub use Rattle.stage_model.specs.promise.Typing.{no_column}
 
 abbrev pub picked_columns : List ℕ → List Column → List Column
 picked_columns picks columns = picked no_column picks columns

@@ -1,11 +1,11 @@
 -- What a slice keeps of chunks.
 use Rattle.std.specs.Prelude.{◌≡◌, ◌-◌, ◌==◌, ℕ, pos, min, if◌then◌else◌, List, map, Option, None, Some}
 use Rattle.data_types.specs.ColumnView.{column_of}
-use Rattle.data_types.specs.Table.{Column}
+use Rattle.data_types.specs.promise.Table.{Column}
 use Rattle.data_types.specs.declared.kind.ColumnType.{ColumnType}
-use Rattle.raw_array.specs.Members.{ArrayTree}
+use Rattle.raw_array.specs.promise.Members.{ArrayTree}
 use Rattle.raw_array.specs.Windows.{Window}
-use Rattle.layout_rules.specs.Values.{tree_items}
+use Rattle.layout_rules.specs.promise.Values.{tree_items}
 
 -- the columns that are kept are those that come
 pub record SliceFits (kept : List ColumnType) (before : List Column) : Type 0 where

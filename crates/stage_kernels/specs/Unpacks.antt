@@ -2,13 +2,13 @@
 use Rattle.std.specs.Prelude.{◌≡◌, ◌<◌, ◌≤◌, ℕ, List, length, map}
 use Rattle.data_types.specs.declared.kind.ColumnType.{ColumnType}
 use Rattle.data_types.specs.ColumnView.{column_of}
-use Rattle.data_types.specs.Parts.{unpacked_columns}
-use Rattle.data_types.specs.Table.{Column, Columns, Members}
-use Rattle.tree_model.specs.Tree.{children_of, child_at}
-use Rattle.raw_array.specs.Members.{ArrayTree, members_of}
+use Rattle.data_types.specs.promise.Parts.{unpacked_columns}
+use Rattle.data_types.specs.promise.Table.{Column, Columns, Members}
+use Rattle.tree_model.specs.promise.TreeParts.{children_of, child_at}
+use Rattle.raw_array.specs.promise.Members.{ArrayTree, members_of}
 use Rattle.raw_array.specs.Windows.{Window}
-use Rattle.data_types.specs.ColumnKinds.{type_of_columns}
-use Rattle.layout_rules.specs.Walk.{ChunkOk}
+use Rattle.data_types.specs.promise.ColumnKinds.{type_of_columns}
+use Rattle.layout_rules.specs.promise.Walk.{ChunkOk}
 use Rattle.stage_model.specs.Typing.{column_at}
 use Rattle.stages.specs.Structs.{column_structs, most_structs}
 use Rattle.stages.specs.Children.{ShowsChildren}

@@ -1,9 +1,9 @@
 //! The step that puts columns under a new struct.
 ghost use Rattle.std.specs.Prelude.{◌≡◌, Some, map};
 ghost use Rattle.data_types.specs.ColumnView.{column_of};
-ghost use Rattle.stage_model.specs.Stages.{chunks_after};
+ghost use Rattle.stage_model.specs.promise.Stages.{chunks_after};
 ghost use Rattle.stage_model.specs.declared.stage.Step.TheVariants as steps;
-ghost use Rattle.stage_model.specs.Traffic.{made_blocks, made_nodes};
+ghost use Rattle.stage_model.specs.promise.Traffic.{made_blocks, made_nodes};
 ghost use Rattle.stages.specs.Steps.{always, any_tables, rows_only};
 ghost use Rattle.stage_kernels.specs.Packs.{PackFits};
 

@@ -1,19 +1,23 @@
 //! A chunk with some of its columns under a new struct, by moves.
 ghost use Rattle.std.specs.Prelude.{◌≡◌, ◌≤◌, ◌<◌, ◌+◌, ◌-◌, ◌^◌, ◌++◌, ◌∷◌, ◌≤ℤ◌, [], List, All, pos, length, map, vec_len, vec_capacity, IfOk, MatchResult};
 ghost use Rattle.data_types.specs.Parts.{AreWithin};
-ghost use Rattle.data_types.specs.Table.{Column};
-ghost use Rattle.tree_model.specs.Tree.{Depth, Released, child_at, children_of, depth_of_all, trees, with_child};
-ghost use Rattle.raw_array.specs.Members.{Cost, cost_of_all, members_of};
+ghost use Rattle.data_types.specs.promise.Table.{Column};
+ghost use Rattle.tree_model.specs.promise.TreeData.{Released, trees};
+ghost use Rattle.tree_model.specs.promise.TreeParts.{child_at, children_of};
+ghost use Rattle.tree_model.specs.Tree.{Depth, depth_of_all, with_child};
+ghost use Rattle.raw_array.specs.promise.Members.{Cost, members_of};
+ghost use Rattle.raw_array.specs.Members.{cost_of_all};
 ghost use Rattle.raw_array.specs.Windows.{FitsWindow};
-ghost use Rattle.unit_pass.specs.Tally.{risen};
+ghost use Rattle.unit_pass.specs.promise.Tally.{risen};
 ghost use Rattle.unit_pass.specs.declared.pass.TheConstants.{SUPPLY};
-ghost use Rattle.data_types.specs.ColumnKinds.{type_of_columns};
-ghost use Rattle.layout_rules.specs.Layout.{natural};
-ghost use Rattle.layout_rules.specs.Walk.{ChunkOk};
+ghost use Rattle.data_types.specs.promise.ColumnKinds.{type_of_columns};
+ghost use Rattle.layout_rules.specs.promise.Layout.{natural};
+ghost use Rattle.layout_rules.specs.promise.Walk.{ChunkOk};
 ghost use Rattle.arr_move.specs.TreeActs.{Distinct, FitParentWindow, InRange};
-ghost use Rattle.arr_export.specs.ArrayTrees.{IsColumn, table_tree};
+ghost use Rattle.arr_export.specs.promise.ArrayTrees.{table_tree};
+ghost use Rattle.arr_export.specs.ArrayTrees.{IsColumn};
 ghost use Rattle.array_laws.specs.Picking.{Packed};
-ghost use Rattle.layout_rules.specs.Rules.{window_limit};
+ghost use Rattle.layout_rules.specs.promise.Rules.{window_limit};
 ghost use Rattle.stage_kernels.specs.Packs.{LeftOf, column_in};
 
 use arr_export::export_table;

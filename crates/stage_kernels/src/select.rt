@@ -2,16 +2,16 @@
 ghost use Rattle.std.specs.Prelude.{◌≡◌, ◌+◌, ◌≤◌, ◌^◌, List, Some, length, map, IfOk, MatchResult};
 ghost use Rattle.data_types.specs.ColumnView.{column_of};
 ghost use Rattle.data_types.specs.Parts.{AreWithin};
-ghost use Rattle.data_types.specs.Table.{Column};
-ghost use Rattle.raw_array.specs.Members.{ArrayTree, Cost};
-ghost use Rattle.unit_pass.specs.Tally.{risen};
+ghost use Rattle.data_types.specs.promise.Table.{Column};
+ghost use Rattle.raw_array.specs.promise.Members.{ArrayTree, Cost};
+ghost use Rattle.unit_pass.specs.promise.Tally.{risen};
 ghost use Rattle.unit_pass.specs.declared.pass.TheConstants.{SUPPLY};
-ghost use Rattle.data_types.specs.ColumnKinds.{type_of_columns};
-ghost use Rattle.layout_rules.specs.Walk.{ChunkOk};
+ghost use Rattle.data_types.specs.promise.ColumnKinds.{type_of_columns};
+ghost use Rattle.layout_rules.specs.promise.Walk.{ChunkOk};
 ghost use Rattle.arr_move.specs.TreeActs.{Columns, Distinct};
-ghost use Rattle.stage_model.specs.Stages.{chunks_after};
+ghost use Rattle.stage_model.specs.promise.Stages.{chunks_after};
 ghost use Rattle.stage_model.specs.declared.stage.Step.TheVariants as steps;
-ghost use Rattle.stage_model.specs.Traffic.{made_blocks, made_nodes};
+ghost use Rattle.stage_model.specs.promise.Traffic.{made_blocks, made_nodes};
 ghost use Rattle.stages.specs.Steps.{always, any_tables, rows_only};
 ghost use Rattle.stage_kernels.specs.Picks.{PickFits};
 

@@ -1,17 +1,17 @@
 //! The step that keeps the rows of a window.
 ghost use Rattle.std.specs.Prelude.{◌≡◌, ◌+◌, ◌-◌, ◌≤◌, pos, List, Some, map};
 ghost use Rattle.data_types.specs.ColumnView.{column_of};
-ghost use Rattle.data_types.specs.Table.{Column};
-ghost use Rattle.raw_array.specs.Members.{Cost};
+ghost use Rattle.data_types.specs.promise.Table.{Column};
+ghost use Rattle.raw_array.specs.promise.Members.{Cost};
 ghost use Rattle.raw_array.specs.Windows.{Window};
 ghost use Rattle.unit_pass.specs.declared.pass.TheConstants.{SUPPLY};
-ghost use Rattle.data_types.specs.ColumnKinds.{type_of_columns};
-ghost use Rattle.layout_rules.specs.Rules.{window_limit};
-ghost use Rattle.layout_rules.specs.Values.{tree_items};
-ghost use Rattle.layout_rules.specs.Walk.{ChunkOk};
-ghost use Rattle.stage_model.specs.Stages.{chunks_after};
+ghost use Rattle.data_types.specs.promise.ColumnKinds.{type_of_columns};
+ghost use Rattle.layout_rules.specs.promise.Rules.{window_limit};
+ghost use Rattle.layout_rules.specs.promise.Values.{tree_items};
+ghost use Rattle.layout_rules.specs.promise.Walk.{ChunkOk};
+ghost use Rattle.stage_model.specs.promise.Stages.{chunks_after};
 ghost use Rattle.stage_model.specs.declared.stage.Step.TheVariants as steps;
-ghost use Rattle.stage_model.specs.Traffic.{made_blocks, made_nodes};
+ghost use Rattle.stage_model.specs.promise.Traffic.{made_blocks, made_nodes};
 ghost use Rattle.stages.specs.Steps.{always, any_tables, cost_given, rows_only};
 ghost use Rattle.stage_kernels.specs.Slices.{SliceFits, kept_part};
 

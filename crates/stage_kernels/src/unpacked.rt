@@ -1,15 +1,18 @@
 //! A struct column's children, moved into its place.
 ghost use Rattle.std.specs.Prelude.{◌≡◌, ◌+◌, ◌-◌, ◌<◌, ◌≤◌, ◌≤ℤ◌, ℕ, pos, [], ◌∷◌, ◌++◌, All, length, map, take, drop, vec_len, vec_capacity};
 ghost use Rattle.std.specs.Prelude.{if◌then◌else◌, is_ok, IfOk, MatchResult};
-ghost use Rattle.tree_model.specs.Tree.{Depth, Released, IsLive, children_of, child_at, trees, with_child};
-ghost use Rattle.raw_array.specs.Members.{ArrayTree, Cost, cost_of_all, members_of};
+ghost use Rattle.tree_model.specs.promise.TreeData.{Released, trees};
+ghost use Rattle.tree_model.specs.promise.TreeParts.{IsLive, children_of, child_at};
+ghost use Rattle.tree_model.specs.Tree.{Depth, with_child};
+ghost use Rattle.raw_array.specs.promise.Members.{ArrayTree, Cost, members_of};
+ghost use Rattle.raw_array.specs.Members.{cost_of_all};
 ghost use Rattle.raw_array.specs.Windows.{FitsWindow, Window};
-ghost use Rattle.unit_pass.specs.Tally.{risen};
+ghost use Rattle.unit_pass.specs.promise.Tally.{risen};
 ghost use Rattle.unit_pass.specs.declared.pass.TheConstants.{SUPPLY};
-ghost use Rattle.layout_rules.specs.Layout.{natural};
+ghost use Rattle.layout_rules.specs.promise.Layout.{natural};
 ghost use Rattle.arr_export.specs.ArrayTrees.{IsColumn};
 ghost use Rattle.array_laws.specs.Picking.{Unpacked, cut_children};
-ghost use Rattle.layout_rules.specs.Rules.{window_limit};
+ghost use Rattle.layout_rules.specs.promise.Rules.{window_limit};
 ghost use Rattle.stages.specs.Children.{ShowsChildren};
 ghost use Rattle.stage_kernels.specs.Unpacks.{HasStruct, ShowsInner};
 

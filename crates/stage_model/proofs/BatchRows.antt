@@ -3,13 +3,14 @@ use Rattle.std.proofs.Common.{◌≡◌, ℕ, ◌-◌, List, [], ◌∷◌, refl
 use Rattle.std.proofs.lemmas.Bool.{cases_Bool}
 use Rattle.std.specs.Prelude.{◌==◌, Ok}
 use Rattle.std.specs.List.{onto_first}
-use Rattle.csv_model.specs.Batches.{batches_if, batches_in, cut, rows_before}
-use Rattle.csv_model.specs.Reading.{Record, body}
-use Rattle.data_types.specs.Parts.{joined_rows}
-use Rattle.data_types.specs.Table.{Column, Row}
-use Rattle.stage_model.specs.Links.{last_chunks, Whole}
-use Rattle.stage_model.specs.Stages.{table}
-use Rattle.stage_model.specs.Typing.{Stage}
+use Rattle.csv_model.specs.promise.Batches.{batches_if, batches_in, cut, rows_before}
+use Rattle.csv_model.specs.promise.Reading.{Record, body}
+use Rattle.data_types.specs.promise.Parts.{joined_rows}
+use Rattle.data_types.specs.promise.Table.{Column, Row}
+use Rattle.stage_model.specs.promise.Links.{Whole}
+use Rattle.stage_model.specs.Links.{last_chunks}
+use Rattle.stage_model.specs.promise.Stages.{table}
+use Rattle.stage_model.specs.promise.Typing.{Stage}
 use Rattle.stage_model.proofs.ChunkRows.{whole-rows}
 
 onto-rows : (row : Row) (parts : List (List Row)) → joined_rows (onto_first row parts) ≡ row ∷ joined_rows parts

@@ -4,14 +4,15 @@ use Rattle.std.specs.Prelude.{get_or, if◌then◌else◌}
 use Rattle.std.specs.List.{filter}
 use Rattle.std.proofs.lemmas.List.{map-append}
 use Rattle.std.proofs.lemmas.List.Elements.{filter-append}
-use Rattle.csv_model.specs.Batches.{Chunks}
-use Rattle.data_types.specs.Parts.{joined_rows, packed, picked, unpacked}
-use Rattle.data_types.specs.Table.{Column, Row, Table}
-use Rattle.data_types.specs.Value.{Null}
+use Rattle.csv_model.specs.promise.Batches.{Chunks}
+use Rattle.data_types.specs.promise.Parts.{joined_rows, packed, picked, unpacked}
+use Rattle.data_types.specs.promise.Table.{Column, Row, Table}
+use Rattle.data_types.specs.promise.Value.{Null}
 use Rattle.data_types.specs.declared.row_fault.RowFault.{RowFault}
-use Rattle.stage_model.specs.Links.{last_chunks, last_columns, Whole}
-use Rattle.stage_model.specs.Stages.{ChunkStage, TableStage, at_end, chunks_after, is_within, passes, rows_after, sliced, sliced_chunks, table, unless_empty}
-use Rattle.stage_model.specs.Typing.{Stage}
+use Rattle.stage_model.specs.promise.Links.{Whole}
+use Rattle.stage_model.specs.Links.{last_chunks, last_columns}
+use Rattle.stage_model.specs.promise.Stages.{ChunkStage, TableStage, at_end, chunks_after, is_within, passes, rows_after, sliced, sliced_chunks, table, unless_empty}
+use Rattle.stage_model.specs.promise.Typing.{Stage}
 use Rattle.stage_model.specs.declared.stage.Step.{Step}
 use Rattle.stage_model.specs.declared.stage.Step.TheVariants as steps
 

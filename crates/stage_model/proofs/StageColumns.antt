@@ -2,12 +2,13 @@
 use Rattle.std.proofs.Common.{◌≡◌, ℕ, Bool, true, false, true≢false, List, [], ◌∷◌, refl, sym, ap, subst, ◌∙◌}
 use Rattle.std.specs.Prelude.{not, ◌||◌, ◌&&◌, get_or}
 use Rattle.std.specs.List.{list_all}
-use Rattle.data_types.specs.Parts.{replaced, unpacked_columns}
-use Rattle.data_types.specs.Table.{Column, Kind, Flat, Dict, Columns, Members}
+use Rattle.data_types.specs.promise.Parts.{replaced, unpacked_columns}
+use Rattle.data_types.specs.promise.Table.{Column, Kind, Flat, Dict, Columns, Members}
 use Rattle.data_types.specs.declared.kind.DataType.{DataType}
 use Rattle.stage_model.proofs.Numbers.{none-fails}
-use Rattle.stage_model.specs.Typing.{HasColumns, IsStageOver, Stage, column, column_named, columns_after, columns_named, compares, dict_kind, is_bytes, is_dict}
-use Rattle.stage_model.specs.Typing.{is_ordered, is_struct, names_of, place_of, plain_kind, rules_of, step_of, struct_members, takes}
+use Rattle.stage_model.specs.promise.Typing.{Stage, column, column_named, columns_after, columns_named, compares, dict_kind, is_bytes, is_dict}
+use Rattle.stage_model.specs.Typing.{HasColumns, IsStageOver}
+use Rattle.stage_model.specs.promise.Typing.{is_ordered, is_struct, names_of, place_of, plain_kind, rules_of, step_of, struct_members, takes}
 use Rattle.stage_model.specs.declared.stage.StageText.{StageText}
 use Rattle.stage_model.specs.declared.stage.StageText.TheVariants as texts
 

@@ -1,21 +1,22 @@
 -- Worked examples of runs: texts, faults, links and traffic, by the stages that have a name and those that have none yet.
 use Rattle.std.specs.Prelude.{ℕ, ◌+◌, false, true, pos, List, [], ◌∷◌, codes, get_or, map, Option, Result, Ok, Err}
-use Rattle.csv_model.specs.Batches.{Batches, batches_in}
-use Rattle.csv_model.specs.Header.{Entry, header_of}
-use Rattle.csv_model.specs.Reading.{Record, behind_header, body, records_of}
-use Rattle.csv_model.specs.Text.{table_text}
+use Rattle.csv_model.specs.promise.Batches.{batches_in}
+use Rattle.csv_model.specs.Batches.{Batches}
+use Rattle.csv_model.specs.promise.Header.{Entry, header_of}
+use Rattle.csv_model.specs.promise.Reading.{Record, behind_header, body, records_of}
+use Rattle.csv_model.specs.promise.Text.{table_text}
 use Rattle.csv_model.specs.declared.fault.HeaderFault.{HeaderFault}
 use Rattle.data_types.specs.declared.kind.DataType.{DataType}
 use Rattle.data_types.specs.declared.kind.DataType.TheVariants as kinds
 use Rattle.data_types.specs.declared.row_fault.RowFault.{RowFault}
-use Rattle.data_types.specs.Parts.{joined_rows}
-use Rattle.data_types.specs.Table.{Column, Flat, Dict, Row}
-use Rattle.data_types.specs.Value.{Null, Bytes, Whole as Number, bytes_of}
-use Rattle.stage_model.specs.Links.{Link, Links, Whole}
-use Rattle.stage_model.specs.StageGrammar.{stage_of}
-use Rattle.stage_model.specs.Stages.{table}
-use Rattle.stage_model.specs.Traffic.{run_blocks, run_nodes}
-use Rattle.stage_model.specs.Typing.{Stage, plan_of}
+use Rattle.data_types.specs.promise.Parts.{joined_rows}
+use Rattle.data_types.specs.promise.Table.{Column, Flat, Dict, Row}
+use Rattle.data_types.specs.promise.Value.{Null, Bytes, Whole as Number, bytes_of}
+use Rattle.stage_model.specs.promise.Links.{Link, Links, Whole}
+use Rattle.stage_model.specs.promise.StageGrammar.{stage_of}
+use Rattle.stage_model.specs.promise.Stages.{table}
+use Rattle.stage_model.specs.promise.Traffic.{run_blocks, run_nodes}
+use Rattle.stage_model.specs.promise.Typing.{Stage, plan_of}
 use Rattle.stage_model.specs.declared.fault.PlanFault.{PlanFault}
 use Rattle.stage_model.specs.declared.fault.StageFault.{StageFault}
 use Rattle.stage_model.specs.declared.stage.StageText.{StageText}

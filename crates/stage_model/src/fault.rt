@@ -1,6 +1,6 @@
 //! Why a text is no stage, and why stages don't fit columns.
 ghost use Rattle.std.specs.Prelude.{◌≡◌};
-ghost use Rattle.stage_model.specs.FaultTexts.{rule_text, stage_fault_text};
+ghost use Rattle.stage_model.specs.promise.FaultTexts.{rule_text, stage_fault_text};
 ghost use Rattle.stage_model.specs.declared.fault.PlanFault.TheVariants as plan;
 ghost use Rattle.stage_model.specs.declared.fault.StageFault.TheVariants as stage;
 

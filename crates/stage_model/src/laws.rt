@@ -1,9 +1,12 @@
 //! What holds of stages. The calls do nothing.
 ghost use Rattle.std.specs.Prelude.{◌≡◌, ◌≤◌, ◌+◌, ◌-◌, ℕ, List, drop, length, take};
-ghost use Rattle.data_types.specs.Table.{Column, Row, Table};
-ghost use Rattle.stage_model.specs.Links.{BatchesGiveTheWhole, ChunksGiveTheWhole, Whole, last_columns};
-ghost use Rattle.stage_model.specs.Stages.{sliced, window_end, window_start};
-ghost use Rattle.stage_model.specs.Typing.{FitsColumns, HasColumns, IsStageOver, Stage};
+ghost use Rattle.data_types.specs.promise.Table.{Column, Row, Table};
+ghost use Rattle.stage_model.specs.promise.Links.{Whole};
+ghost use Rattle.stage_model.specs.Links.{BatchesGiveTheWhole, ChunksGiveTheWhole, last_columns};
+ghost use Rattle.stage_model.specs.promise.Stages.{sliced};
+ghost use Rattle.stage_model.specs.Stages.{window_end, window_start};
+ghost use Rattle.stage_model.specs.promise.Typing.{Stage};
+ghost use Rattle.stage_model.specs.Typing.{FitsColumns, HasColumns, IsStageOver};
 
 /// A law: where the source ends well, the rows that come out of a chain of stages are those of the whole table, however
 /// the source cut them into chunks; and so are the columns.

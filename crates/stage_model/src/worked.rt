@@ -2,7 +2,7 @@
 ghost use Rattle.std.specs.Prelude.{◌≡◌, ◌∷◌, [], codes, Ok, Err, None, Some};
 ghost use Rattle.data_types.specs.declared.row_fault.RowFault.TheVariants as row;
 ghost use Rattle.stage_model.specs.Examples.{asks, batch_ending, batch_texts, by, link_rows, long, of_size, one, outcome, BadPlan, BadStage};
-ghost use Rattle.stage_model.specs.StageGrammar.{stage_of};
+ghost use Rattle.stage_model.specs.promise.StageGrammar.{stage_of};
 ghost use Rattle.stage_model.specs.declared.fault.PlanFault.TheVariants as plan;
 ghost use Rattle.stage_model.specs.declared.fault.PlanRule.TheVariants as rules;
 ghost use Rattle.stage_model.specs.declared.fault.StageFault.TheVariants.{UnknownStage, BadArguments};

@@ -1,9 +1,10 @@
 -- The columns after a stage, piece by piece.
 use Rattle.std.proofs.Common.{◌≡◌, ◌∙◌, ◌<◌, ◌+◌, ◌-◌, ◌++◌, ℕ, List, [], ◌∷◌, length, get_or, take, drop, refl, ap, sym, arith, append_assoc, length-drop}
 use Rattle.std.proofs.lemmas.List.{drop-map, take-map, take_all, take_more, map-append}
-use Rattle.data_types.specs.ColumnView.{column_of, members}
-use Rattle.data_types.specs.Parts.{member_columns, replaced}
-use Rattle.data_types.specs.Table.{Column}
+use Rattle.data_types.specs.promise.ColumnView.{members}
+use Rattle.data_types.specs.ColumnView.{column_of}
+use Rattle.data_types.specs.promise.Parts.{member_columns, replaced}
+use Rattle.data_types.specs.promise.Table.{Column}
 use Rattle.data_types.specs.declared.kind.ColumnType.{ColumnType}
 use Rattle.stage_plan.specs.PlanWords.{columns_in}
 

@@ -5,8 +5,8 @@ use Rattle.fmt_string.specs.declared.fault.FormatRule.{FormatRule}
 use Rattle.fmt_string.specs.declared.fault.FormatFault.{FormatFault}
 use Rattle.fmt_string.specs.declared.fault.FormatFault.TheVariants.{At, NoMemory}
 use Rattle.fmt_string.specs.Answer.{Reads}
-use Rattle.data_types.specs.Kinds.{is_column_type}
-use Rattle.stage_plan.specs.Types.{TypeReads}
+use Rattle.data_types.specs.promise.Kinds.{is_column_type}
+use Rattle.stage_plan.specs.promise.Types.{TypeReads}
 
 -- what `read_format` says of the other readings of its text
 abbrev pub Only : List ℕ → Result DataType FormatFault → Type 0

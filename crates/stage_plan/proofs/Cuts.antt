@@ -8,7 +8,8 @@ use Rattle.std.proofs.lemmas.List.{map-append, take_all}
 use Rattle.std.proofs.lemmas.List.Quantifiers.{position-Some}
 use Rattle.data_types.specs.declared.kind.DataType.{DataType}
 use Rattle.stage_plan.specs.declared.types.TypeEntry.{TypeEntry}
-use Rattle.stage_plan.specs.Types.{parts, semicolon, colon, Lacks, CutsAt, TypeReads, EntryReads}
+use Rattle.stage_plan.specs.promise.Types.{parts, semicolon, colon, Lacks, CutsAt, TypeReads}
+use Rattle.stage_plan.specs.Types.{EntryReads}
 
 at_place : (byte : ℕ) (text : List ℕ) (i : ℕ) → i < length text → (slice_index_or text i 0 == byte) ≡ true
     → ((k : ℕ) → k < i → (slice_index_or text k 0 == byte) ≡ false)

@@ -4,13 +4,14 @@ use Rattle.std.specs.Int.{w32}
 use Rattle.std.specs.Prelude.{All, FitsSigned, pos}
 use Rattle.std.specs.List.{AllByRecursion, flat_map}
 use Rattle.data_types.specs.ColumnForms.{KindsOk, MembersOk}
-use Rattle.data_types.specs.ColumnView.{column_of, kind_of, members}
-use Rattle.data_types.specs.Parts.{member_columns, picked}
-use Rattle.data_types.specs.Table.{Column, Kind, Flat, Dict, Columns, Members, no_members, more_members}
+use Rattle.data_types.specs.promise.ColumnView.{members}
+use Rattle.data_types.specs.ColumnView.{column_of, kind_of}
+use Rattle.data_types.specs.promise.Parts.{member_columns, picked}
+use Rattle.data_types.specs.promise.Table.{Column, Kind, Flat, Dict, Columns, Members, no_members, more_members}
 use Rattle.data_types.specs.declared.kind.ColumnType.{ColumnType}
 use Rattle.data_types.specs.declared.kind.DataType.TheVariants as kinds
-use Rattle.stage_model.specs.Typing.{column_named, columns_after, columns_named, dict_kind, no_column, place_of, places_of, plain_kind, rest_of, scale_of}
-use Rattle.stage_model.specs.Typing.{struct_members, totals_columns}
+use Rattle.stage_model.specs.promise.Typing.{column_named, columns_after, columns_named, dict_kind, no_column, place_of, places_of, plain_kind, rest_of, scale_of}
+use Rattle.stage_model.specs.promise.Typing.{struct_members, totals_columns}
 use Rattle.stage_model.specs.declared.stage.StageText.{StageText}
 use Rattle.stage_model.specs.declared.stage.StageText.TheVariants as texts
 

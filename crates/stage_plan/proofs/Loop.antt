@@ -18,9 +18,11 @@ use Rattle.stage_plan.specs.Code.{entry_of}
 use Rattle.stage_plan.specs.PlanWords.{has_text, texts}
 use Rattle.stage_plan.specs.declared.types.Entry.{Entry}
 use Rattle.data_types.specs.declared.kind.DataType.{DataType}
-use Rattle.fmt_string.specs.FormatString.{FormatIs}
-use Rattle.data_types.specs.Kinds.{KindOk, is_column_type}
-use Rattle.stage_plan.specs.Types.{parts, EntryIs, EntryReads, FirstFaultIs, NamesDiffer, Reads, TypesIs}
+use Rattle.fmt_string.specs.promise.FormatString.{FormatIs}
+use Rattle.data_types.specs.promise.Kinds.{is_column_type}
+use Rattle.data_types.specs.Kinds.{KindOk}
+use Rattle.stage_plan.specs.promise.Types.{parts, EntryIs, FirstFaultIs, NamesDiffer, Reads, TypesIs}
+use Rattle.stage_plan.specs.Types.{EntryReads}
 use Rattle.stage_plan.proofs.Walk.{Answer, Named, Settled, Settles, fault, fault_after, fault_only, whole, whole_only}
 
 -- whether one of the names is this

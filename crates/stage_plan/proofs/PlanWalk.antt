@@ -3,9 +3,10 @@ use Rattle.std.proofs.Common.{◌≡◌, ◌∙◌, ◌<◌, ◌≤◌, ◌+◌,
 use Rattle.std.proofs.Common.{append-nil}
 use Rattle.std.proofs.lemmas.List.{drop_all, map-append}
 use Rattle.std.specs.List.{list_any}
-use Rattle.data_types.specs.Table.{Column}
+use Rattle.data_types.specs.promise.Table.{Column}
 use Rattle.stage_model.proofs.Numbers.{none-fails}
-use Rattle.stage_model.specs.Typing.{Stage, columns_after, is_struct, plan_end, plan_from, plan_links, plan_of, plan_steps, rules_of, stage_over, with_stage}
+use Rattle.stage_model.specs.promise.Typing.{Stage, columns_after, is_struct, plan_end, plan_from, plan_of, rules_of, stage_over, with_stage}
+use Rattle.stage_model.specs.Typing.{plan_links, plan_steps}
 use Rattle.stage_model.specs.declared.fault.PlanFault.{PlanFault}
 use Rattle.stage_model.specs.declared.fault.PlanFault.TheVariants.{At}
 use Rattle.stage_model.specs.declared.fault.PlanRule.{PlanRule}

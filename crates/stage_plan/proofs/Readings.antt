@@ -7,11 +7,11 @@ use Rattle.data_types.specs.declared.kind.DataType.{DataType}
 use Rattle.fmt_string.specs.declared.fault.FormatFault.{FormatFault}
 use Rattle.fmt_string.specs.declared.fault.FormatFault.TheVariants.{At, NoMemory}
 use Rattle.fmt_string.specs.Answer.{Reads as FormatReads}
-use Rattle.data_types.specs.Kinds.{is_column_type}
+use Rattle.data_types.specs.promise.Kinds.{is_column_type}
 use Rattle.std.specs.Prelude.{◌≢◌}
 use Rattle.stage_plan.specs.declared.types.TypeEntry.{TypeEntry}
 use Rattle.stage_plan.specs.declared.fault.TypesRule.TheVariants.{BadEntry, Twice}
-use Rattle.stage_plan.specs.Types.{parts, colon, Lacks, CutsAt, TypeReads, NamesDiffer, Reads}
+use Rattle.stage_plan.specs.promise.Types.{parts, colon, Lacks, CutsAt, TypeReads, NamesDiffer, Reads}
 use Rattle.stage_plan.proofs.Columns.{Only, column, no_column, refused}
 use Rattle.stage_plan.proofs.Cuts.{entry, no_entry, one_entry}
 use Rattle.stage_plan.proofs.Loop.{has_name, named, new_name, push_settled}

@@ -4,9 +4,9 @@ use Rattle.std.specs.Prelude.{is_none, option_map, IfOk, IfNone, IfSome}
 use Rattle.std.specs.List.{list_any}
 use Rattle.std.specs.Option.{unwrap_or}
 use Rattle.data_types.specs.Parts.{AreWithin}
-use Rattle.data_types.specs.Table.{Column}
+use Rattle.data_types.specs.promise.Table.{Column}
 use Rattle.stage_model.proofs.Numbers.{places-below, within}
-use Rattle.stage_model.specs.Typing.{const_for, lacks_constant, names_of, no_column, place_if, place_of, places_of, stage_over, step_of, with_stage}
+use Rattle.stage_model.specs.promise.Typing.{const_for, lacks_constant, names_of, no_column, place_if, place_of, places_of, stage_over, step_of, with_stage}
 use Rattle.stage_model.specs.declared.fault.PlanFault.TheVariants.{At}
 use Rattle.stage_model.specs.declared.fault.PlanRule.TheVariants as rules
 use Rattle.stage_model.specs.declared.stage.Const.{Const}

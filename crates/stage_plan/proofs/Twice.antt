@@ -8,7 +8,7 @@ use Rattle.std.specs.Borrow.{Bor}
 use Rattle.std.specs.List.Sorted.{IsPermutation}
 use Rattle.std.specs.Prelude.{if◌then◌else◌}
 use Rattle.std.specs.Str.{bytes_eq}
-use Rattle.csv_model.specs.Header.{first_twice, is_among, twice_behind}
+use Rattle.csv_model.specs.promise.Header.{first_twice, is_among, twice_behind}
 use Rattle.stage_plan.specs.PlanWords.{has_text, texts}
 
 pub rest-cons : {A : Type 0} (xs : List A) (i : ℕ) (d : A) → i < length xs → drop i xs ≡ get_or xs i d ∷ drop (i + 1) xs

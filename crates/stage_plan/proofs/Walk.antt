@@ -9,7 +9,8 @@ use Rattle.stage_plan.specs.declared.fault.TypesRule.{TypesRule}
 use Rattle.stage_plan.specs.declared.fault.TypesRule.TheVariants.{BadEntry, Twice}
 use Rattle.stage_plan.specs.declared.fault.TypesFault.{TypesFault}
 use Rattle.stage_plan.specs.declared.fault.TypesFault.TheVariants.{At, NoMemory}
-use Rattle.stage_plan.specs.Types.{parts, EntryIs, EntryReads, FirstFaultIs, NamesDiffer, PartFails, Reads, TypesIs}
+use Rattle.stage_plan.specs.promise.Types.{parts, EntryIs, FirstFaultIs, NamesDiffer, PartFails, Reads, TypesIs}
+use Rattle.stage_plan.specs.Types.{EntryReads}
 
 abbrev pub Answer : Type 0
 Answer = Result (List TypeEntry) TypesFault

@@ -1,6 +1,6 @@
 -- Worked parts of texts.
 use Rattle.std.proofs.Common.{◌≡◌, refl, codes, [], ◌∷◌}
-use Rattle.stage_plan.specs.Types.{parts}
+use Rattle.stage_plan.specs.promise.Types.{parts}
 
 two_entries : parts (codes "a:l;b:u") ≡ codes "a:l" ∷ codes "b:u" ∷ []
 two_entries = refl

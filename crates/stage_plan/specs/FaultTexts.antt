@@ -2,12 +2,7 @@
 use Rattle.std.specs.Prelude.{ℕ, ◌++◌, List, codes, decimal}
 use Rattle.stage_plan.specs.declared.fault.TypesFault.{TypesFault}
 use Rattle.stage_plan.specs.declared.fault.TypesFault.TheVariants as faults
-use Rattle.stage_plan.specs.declared.fault.TypesRule.{TypesRule}
-use Rattle.stage_plan.specs.declared.fault.TypesRule.TheVariants as rules
-
-abbrev pub rule_text : TypesRule → List ℕ
-rule_text rules.BadEntry = codes "not a column type"
-rule_text rules.Twice = codes "named before"
+use Rattle.stage_plan.specs.promise.FaultTexts.{rule_text}
 
 abbrev pub fault_text : TypesFault → List ℕ
 fault_text (faults.At entry rule) = codes "schema entry " ++ decimal entry ++ codes ": " ++ rule_text rule

@@ -5,16 +5,14 @@ use Rattle.std.specs.HashMap.{HashMap, get_by}
 use Rattle.std.specs.List.{list_any}
 use Rattle.std.specs.Str.{bytes_eq}
 use Rattle.data_types.specs.ColumnView.{column_of}
-use Rattle.data_types.specs.Parts.{AreWithin, replaced}
-use Rattle.data_types.specs.Table.{Column, Kind}
+use Rattle.data_types.specs.promise.Parts.{replaced}
+use Rattle.data_types.specs.Parts.{AreWithin}
+use Rattle.data_types.specs.promise.Table.{Column, Kind}
 use Rattle.data_types.specs.declared.kind.ColumnType.{ColumnType}
-use Rattle.stage_model.specs.Typing.{PlanIs, Stage, column, dict_kind, names_of, no_column, places_of, plain_kind, plan_links, plan_steps}
+use Rattle.stage_model.specs.promise.Typing.{Stage, column, dict_kind, names_of, no_column, places_of, plain_kind}
+use Rattle.stage_model.specs.Typing.{PlanIs, plan_links, plan_steps}
 use Rattle.stage_model.specs.declared.stage.StageText.{StageText}
 use Rattle.stage_plan.specs.declared.typing.Plan.{Plan}
-
--- the most stages of a plan that is carried out
-abbrev pub most_stages : ℕ
-most_stages = 16
 
 -- the texts that are lent
 abbrev pub texts : List (Bor (List ℕ)) → List (List ℕ)

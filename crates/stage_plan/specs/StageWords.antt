@@ -1,7 +1,7 @@
 -- What the code's names of stages stand for.
 use Rattle.std.specs.Prelude.{ℕ, Bool, false, List, [], ◌∷◌, codes, Option, None, Some}
 use Rattle.std.specs.Char.{is_ascii_digit}
-use Rattle.stage_model.specs.StageGrammar.{StageWord, comma, cut_at, names_in, one_name, read_filter, read_pack, read_slice, stage_word}
+use Rattle.stage_model.specs.promise.StageGrammar.{StageWord, comma, cut_at, names_in, one_name, read_filter, read_pack, read_slice, stage_word}
 use Rattle.stage_model.specs.declared.fault.StageFault.{StageFault}
 use Rattle.stage_model.specs.declared.fault.StageFault.TheVariants.{UnknownStage, BadArguments}
 use Rattle.stage_model.specs.declared.stage.StageText.TheVariants as texts

@@ -5,11 +5,11 @@ ghost use Rattle.stage_model.specs.declared.stage.Const.TheVariants as consts;
 ghost use Rattle.std.specs.Option.{option_and_then};
 ghost use Rattle.data_types.specs.ColumnForms.{KindsOk};
 ghost use Rattle.data_types.specs.ColumnView.{kind_of};
-ghost use Rattle.data_types.specs.FieldText.{hex_bytes, read_form};
+ghost use Rattle.data_types.specs.promise.FieldText.{hex_bytes, read_form};
 ghost use Rattle.data_types.specs.Kinds.{KindOk};
-ghost use Rattle.data_types.specs.Value.{Bytes, Whole};
+ghost use Rattle.data_types.specs.promise.Value.{Bytes, Whole};
 ghost use Rattle.field_codec.specs.FieldForms.{IsProper, form_in};
-ghost use Rattle.stage_model.specs.Typing.{compares, const_for, const_of, constant_value, empty_value};
+ghost use Rattle.stage_model.specs.promise.Typing.{compares, const_for, const_of, constant_value, empty_value};
 
 use data_types::{ColKind, DataType};
 use field_codec::{FieldForm, form_of, read_bytes, read_decimal, read_truth, read_whole};

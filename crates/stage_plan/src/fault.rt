@@ -1,6 +1,6 @@
 //! Why a schema text names no types.
 ghost use Rattle.std.specs.Prelude.{◌≡◌};
-ghost use Rattle.stage_plan.specs.FaultTexts.{rule_text};
+ghost use Rattle.stage_plan.specs.promise.FaultTexts.{rule_text};
 ghost use Rattle.stage_plan.specs.declared.fault.TypesFault.TheVariants.{NoMemory};
 
 use std::alloc::{AllocError, AllocFailed};

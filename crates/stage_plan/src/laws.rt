@@ -1,6 +1,6 @@
 //! What holds of schema texts. The calls do nothing.
 ghost use Rattle.std.specs.Prelude.{◌≡◌, ℕ, List, Result};
-ghost use Rattle.stage_plan.specs.Types.{Reads};
+ghost use Rattle.stage_plan.specs.promise.Types.{Reads};
 ghost use Rattle.stage_plan.specs.declared.fault.TypesFault.{TypesFault};
 ghost use Rattle.stage_plan.specs.declared.types.TypeEntry.{TypeEntry};
 

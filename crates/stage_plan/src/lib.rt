@@ -8,7 +8,7 @@
 //! - [`type_plan`] answers the steps and the columns after each stage ([`Plan`]), or the first stage that doesn't fit its
 //!   columns, with the rule that it breaks ([`PlanFault`]).
 //!
-//! `NoMemory` comes only where memory runs out. The definitions of schema texts are in `specs/Types.antt`, those of stages
+//! `NoMemory` comes only where memory runs out. The definitions of schema texts are in `specs/promise/Types.antt`, those of stages
 //! in `stage_model`. Left to the crates above: which columns an input has.
 #![tactic(auto)]
 

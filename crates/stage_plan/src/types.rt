@@ -2,11 +2,13 @@
 ghost use Rattle.std.specs.Prelude.{◌≡◌, ◌≢◌, ◌+◌, ◌==◌, false, true, length, List, All, Option, Result, IfOk, IfErr, IfSome, IfNone, map, option_map};
 ghost use Rattle.std.specs.Prelude.{position};
 ghost use Rattle.data_types.specs.declared.kind.DataType.{DataType as AType};
-ghost use Rattle.data_types.specs.Kinds.{KindOk, is_column_type};
+ghost use Rattle.data_types.specs.promise.Kinds.{is_column_type};
+ghost use Rattle.data_types.specs.Kinds.{KindOk};
 ghost use Rattle.stage_plan.specs.declared.fault.TypesFault.{TypesFault as AFault};
 ghost use Rattle.stage_plan.specs.declared.fault.TypesFault.TheVariants as faults;
 ghost use Rattle.stage_plan.specs.declared.types.TypeEntry.{TypeEntry as AnEntry};
-ghost use Rattle.stage_plan.specs.Types.{parts, CutsAt, Lacks, TypeReads, EntryReads, TypesIs, TypesFaultIs, Reads, Gives};
+ghost use Rattle.stage_plan.specs.promise.Types.{parts, CutsAt, Lacks, TypeReads, TypesIs, TypesFaultIs, Reads};
+ghost use Rattle.stage_plan.specs.Types.{EntryReads, Gives};
 ghost use Rattle.stage_plan.specs.Code.{entry_of};
 
 use crate::{TypesFault, TypesRule};

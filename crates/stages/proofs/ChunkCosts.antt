@@ -1,19 +1,21 @@
 -- What a chunk of columns costs at most, by the number of buffers that the layout of each node has.
 use Rattle.std.proofs.Common.{arith, ◌≡◌, ◌≤◌, ◌<◌, ◌+◌, ◌*◌, ℕ, zero, suc, true, false, List, [], ◌∷◌, Option, None, Some, length, get_or, All, refl, subst}
 use Rattle.data_types.specs.ColumnForms.{AreColumnKinds, HasForm, MembersAreColumns}
-use Rattle.data_types.specs.FieldText.{form_of}
-use Rattle.data_types.specs.Table.{Column, Kind, Flat, Dict, Columns as StructOf, Members, no_members, more_members}
+use Rattle.data_types.specs.promise.FieldText.{form_of}
+use Rattle.data_types.specs.promise.Table.{Column, Kind, Flat, Dict, Columns as StructOf, Members, no_members, more_members}
 use Rattle.data_types.specs.declared.kind.DataType.{DataType}
 use Rattle.data_types.specs.declared.kind.DataType.TheVariants as kinds
-use Rattle.tree_model.specs.Tree.{IsLive, Released, Live, Trees, no_trees, more_trees, MaybeTree, absent, present, tree_list, option_tree}
+use Rattle.tree_model.specs.promise.TreeParts.{IsLive}
+use Rattle.tree_model.specs.promise.TreeData.{Released, Live, Trees, no_trees, more_trees, MaybeTree, absent, present, tree_list, option_tree}
 use Rattle.tree_model.proofs.Lists.{tree_list-trees}
-use Rattle.raw_array.specs.Members.{ArrayMembers, ArrayTree, Buffer, Cost, cost_of_all, cost_of_maybe, holds_of}
-use Rattle.data_types.specs.ColumnKinds.{type_of_column, type_of_columns, type_of_kind, types_of_columns, types_of_members}
-use Rattle.data_types.specs.KindTrees.{KindTree}
+use Rattle.raw_array.specs.promise.Members.{ArrayMembers, ArrayTree, Buffer, Cost, holds_of}
+use Rattle.raw_array.specs.Members.{cost_of_all, cost_of_maybe}
+use Rattle.data_types.specs.promise.ColumnKinds.{type_of_column, type_of_columns, type_of_kind, types_of_columns, types_of_members}
+use Rattle.data_types.specs.promise.KindTrees.{KindTree}
 use Rattle.layout_rules.specs.Lawful.{PartsHold, RootHolds}
-use Rattle.layout_rules.specs.Layout.{buffer_count, layout_of}
-use Rattle.layout_rules.specs.Rules.{one_if}
-use Rattle.layout_rules.specs.Walk.{LayoutOk}
+use Rattle.layout_rules.specs.promise.Layout.{buffer_count, layout_of}
+use Rattle.layout_rules.specs.promise.Rules.{one_if}
+use Rattle.layout_rules.specs.promise.Walk.{LayoutOk}
 use Rattle.stream_face.specs.Lawful.{column_leaves, leaves, member_leaves}
 use Rattle.stages.specs.Structs.{column_structs, member_structs, structs}
 

@@ -2,7 +2,7 @@
 use Rattle.std.specs.Coded.{Coded-set}
 use Rattle.std.proofs.Common.{◌≡◌, List}
 use Rattle.std.proofs.Math.Logic.{∥∥₁_elim}
-use Rattle.data_types.specs.Table.{Column}
+use Rattle.data_types.specs.promise.Table.{Column}
 use Rattle.stages.proofs.CodedColumns.{coded_columns}
 
 -- an equation of columns that follows from a fact follows from its being so

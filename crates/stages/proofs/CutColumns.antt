@@ -1,11 +1,14 @@
 -- What a column that is cut to a window keeps.
 use Rattle.std.proofs.Common.{arith, ◌≡◌, ◌≤ℤ◌, ℕ, ℤ, pos, negsuc, true, false, if◌then◌else◌, refl, sym, subst}
-use Rattle.data_types.specs.Table.{Kind, Flat, Dict, Columns as StructOf}
-use Rattle.tree_model.specs.Tree.{Released, Live, IsLive, children_of, dictionary_at}
-use Rattle.raw_array.specs.Members.{ArrayTree, windowed}
+use Rattle.data_types.specs.promise.Table.{Kind, Flat, Dict, Columns as StructOf}
+use Rattle.tree_model.specs.promise.TreeData.{Released, Live}
+use Rattle.tree_model.specs.promise.TreeParts.{IsLive, children_of}
+use Rattle.tree_model.specs.Tree.{dictionary_at}
+use Rattle.raw_array.specs.promise.Members.{ArrayTree}
+use Rattle.raw_array.specs.Members.{windowed}
 use Rattle.raw_array.specs.Windows.{Window, is_whole}
-use Rattle.layout_rules.specs.Layout.{natural}
-use Rattle.layout_rules.specs.Values.{tree_items}
+use Rattle.layout_rules.specs.promise.Layout.{natural}
+use Rattle.layout_rules.specs.promise.Values.{tree_items}
 use Rattle.stream_face.specs.Lawful.{DictsAreFull, MemberDictsAreFull}
 
 -- ---- its items

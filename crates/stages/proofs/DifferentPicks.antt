@@ -9,11 +9,12 @@ use Rattle.std.proofs.lemmas.List.Kept.{AllPairs-cons, AllPairs-filter}
 use Rattle.std.proofs.lemmas.List.Sums.{passes_at_first}
 use Rattle.std.proofs.lemmas.Slice.Eq.{bytes_eq-Decides}
 use Rattle.arr_move.specs.TreeActs.{Distinct}
-use Rattle.csv_model.specs.Header.{is_among, twice_behind}
-use Rattle.data_types.specs.Table.{Column}
+use Rattle.csv_model.specs.promise.Header.{is_among, twice_behind}
+use Rattle.data_types.specs.promise.Table.{Column}
 use Rattle.stage_model.proofs.Numbers.{none-fails}
-use Rattle.stage_model.specs.Typing.{IsStageOver, Stage, column_named, has_twice, names_of, no_column, others, place_if, place_of, places_of, rest_of, rules_of}
-use Rattle.stage_model.specs.Typing.{step_of}
+use Rattle.stage_model.specs.promise.Typing.{Stage, column_named, has_twice, names_of, no_column, others, place_if, place_of, places_of, rest_of, rules_of}
+use Rattle.stage_model.specs.Typing.{IsStageOver}
+use Rattle.stage_model.specs.promise.Typing.{step_of}
 use Rattle.stage_model.specs.declared.stage.StageText.{StageText}
 use Rattle.stage_model.specs.declared.stage.StageText.TheVariants as texts
 use Rattle.stages.specs.Distinct.{DistinctPicks}

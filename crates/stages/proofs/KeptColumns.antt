@@ -9,15 +9,17 @@ use Rattle.std.proofs.lemmas.Bool.{ltb-false}
 use Rattle.std.proofs.lemmas.List.{drop_more, length-append, map-append}
 use Rattle.std.proofs.lemmas.List.Elements.{All-append, All-cons, All-drop, All-get_or, All-head, All-nil, All-tail, All-take}
 use Rattle.data_types.specs.ColumnForms.{AreColumnKinds}
-use Rattle.data_types.specs.ColumnView.{members}
-use Rattle.data_types.specs.Parts.{AreWithin, member_columns, packed_columns, picked, replaced, unpacked_columns}
-use Rattle.data_types.specs.Table.{Column, Kind, Flat, Dict, Columns, Members, no_members, more_members}
+use Rattle.data_types.specs.promise.ColumnView.{members}
+use Rattle.data_types.specs.promise.Parts.{member_columns, packed_columns, picked, replaced, unpacked_columns}
+use Rattle.data_types.specs.Parts.{AreWithin}
+use Rattle.data_types.specs.promise.Table.{Column, Kind, Flat, Dict, Columns, Members, no_members, more_members}
 use Rattle.data_types.specs.declared.kind.DataType.{DataType}
 use Rattle.data_types.specs.declared.kind.DataType.TheVariants as kinds
 use Rattle.arr_move.specs.TreeActs.{Distinct}
-use Rattle.stage_model.specs.Typing.{FitsColumns, HasColumns, IsStageOver, Stage, column, column_at, columns_after, is_bytes}
-use Rattle.stage_model.specs.Typing.{is_summed, most_columns, no_column, rules_of}
-use Rattle.stage_model.specs.Typing.{scale_of, step_of, totals_columns}
+use Rattle.stage_model.specs.promise.Typing.{Stage, column, columns_after, is_bytes}
+use Rattle.stage_model.specs.Typing.{FitsColumns, HasColumns, IsStageOver, column_at}
+use Rattle.stage_model.specs.promise.Typing.{is_summed, most_columns, no_column, rules_of}
+use Rattle.stage_model.specs.promise.Typing.{scale_of, step_of, totals_columns}
 use Rattle.stage_model.specs.declared.stage.Step.{Step}
 use Rattle.stage_model.specs.declared.stage.Step.TheVariants as steps
 use Rattle.stage_model.proofs.Numbers.{none-fails, stages-fit}

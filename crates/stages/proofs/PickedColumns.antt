@@ -1,10 +1,11 @@
 -- What holds of picked columns, since it holds of all columns.
 use Rattle.std.proofs.Common.{arith, ◌≡◌, ◌≢◌, ◌≤◌, ◌<◌, ◌+◌, ◌∙◌, ℕ, zero, suc, List, [], ◌∷◌, length, map, get_or, set, All, refl, sym, ap, subst}
 use Rattle.std.proofs.lemmas.List.{length-map, get_or-set_other}
-use Rattle.data_types.specs.Parts.{AreWithin, picked}
-use Rattle.data_types.specs.Table.{Column}
+use Rattle.data_types.specs.promise.Parts.{picked}
+use Rattle.data_types.specs.Parts.{AreWithin}
+use Rattle.data_types.specs.promise.Table.{Column}
 use Rattle.arr_move.specs.TreeActs.{Distinct}
-use Rattle.stage_model.specs.Typing.{no_column}
+use Rattle.stage_model.specs.promise.Typing.{no_column}
 use Rattle.stream_face.specs.Lawful.{column_leaves, leaves}
 
 -- ---- one pick

@@ -1,13 +1,16 @@
 -- Calls of a stream one after another, each of which answered 0, as one.
 use Rattle.std.proofs.Common.{arith, ◌≡◌, ◌≢◌, ◌<◌, ◌+◌, ◌++◌, ◌^◌, ℕ, ℤ, pos, List, [], Option, Some, None, IsTrue, refl, sym, ◌∙◌, ap, subst}
 use Rattle.std.proofs.lemmas.List.{append-nil, append_assoc}
-use Rattle.tree_model.specs.Tree.{Released}
-use Rattle.raw_array.specs.Members.{ArrayTree}
-use Rattle.unit_pass.specs.Tally.{Tally, risen}
-use Rattle.stream_face.specs.Calls.{Begins, Counts, GoesOn, InOrder, IsMade, Repeats, Shows, ShowsInOrder, Tells}
+use Rattle.tree_model.specs.promise.TreeData.{Released}
+use Rattle.raw_array.specs.promise.Members.{ArrayTree}
+use Rattle.unit_pass.specs.promise.Tally.{risen}
+use Rattle.unit_pass.specs.Tally.{Tally}
+use Rattle.stream_face.specs.promise.Calls.{Begins, IsMade}
+use Rattle.stream_face.specs.Calls.{Counts, GoesOn, InOrder, Repeats, Shows, ShowsInOrder, Tells}
 use Rattle.stream_face.specs.Codes.{enomem}
-use Rattle.stream_face.specs.Shown.{Seen, Shown, grown, of_link, rows_of_link, rows_shown}
-use Rattle.stream_face.specs.Streams.{IsFresh, Keeps, Making, Stream, Traffic}
+use Rattle.stream_face.specs.promise.Shown.{Seen, Shown, grown, of_link, rows_of_link, rows_shown}
+use Rattle.stream_face.specs.promise.Streams.{Making}
+use Rattle.stream_face.specs.Streams.{IsFresh, Keeps, Stream, Traffic}
 use Rattle.stream_face.specs.Texts.{Refusal}
 use Rattle.stream_face.proofs.Orders.{goes-both, goes-start, made-both, made-none, nil_part, rows-append}
 use Rattle.stream_face.proofs.Joints.{grown-append, had_memory, of_link-append, tells_nothing, tells_refusal, works_before}

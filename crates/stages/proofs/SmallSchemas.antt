@@ -2,11 +2,13 @@
 use Rattle.std.proofs.Common.{arith, ◌≡◌, ◌≤◌, ◌+◌, ◌*◌, ℕ, List, [], ◌∷◌, map, refl}
 use Rattle.std.specs.List.{sum_by}
 use Rattle.std.proofs.lemmas.List.Sums.{sum_by-cons}
-use Rattle.data_types.specs.Table.{Column, Kind, Flat, Dict, Columns, Members, no_members, more_members}
-use Rattle.tree_model.specs.Tree.{Depth, depth_of_all, trees}
-use Rattle.raw_schema.specs.Members.{Nodes, nodes_of_all}
-use Rattle.schema_check.specs.ColumnSchema.{SchemaOf, column_schema, member_schemas, schema_of_column}
-use Rattle.stage_model.specs.Traffic.{Made, kind_nodes, member_nodes, table_nodes}
+use Rattle.data_types.specs.promise.Table.{Column, Kind, Flat, Dict, Columns, Members, no_members, more_members}
+use Rattle.tree_model.specs.promise.TreeData.{trees}
+use Rattle.tree_model.specs.Tree.{Depth, depth_of_all}
+use Rattle.tree_model.specs.promise.TreeCost.{Nodes}
+use Rattle.raw_schema.specs.Members.{nodes_of_all}
+use Rattle.schema_check.specs.promise.ColumnSchema.{SchemaOf, column_schema, member_schemas, schema_of_column}
+use Rattle.stage_model.specs.promise.Traffic.{Made, kind_nodes, member_nodes, table_nodes}
 use Rattle.stream_face.specs.Lawful.{column_leaves, leaves, member_leaves}
 use Rattle.stages.specs.Structs.{column_structs, member_structs, structs}
 

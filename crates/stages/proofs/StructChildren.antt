@@ -1,15 +1,17 @@
 -- What the children of a lawful struct offer to those that take them.
 use Rattle.std.proofs.Common.{arith, ◌≡◌, ◌≤◌, ◌<◌, ◌+◌, ◌≤ℤ◌, ℕ, zero, suc, pos, List, [], ◌∷◌, length, get_or}
-use Rattle.data_types.specs.Parts.{AreWithin, member_columns}
-use Rattle.data_types.specs.Table.{Column, Columns as StructOf, Members}
-use Rattle.tree_model.specs.Tree.{IsLive, Released, children_of, child_at}
-use Rattle.raw_array.specs.Members.{ArrayTree, members_of}
+use Rattle.data_types.specs.promise.Parts.{member_columns}
+use Rattle.data_types.specs.Parts.{AreWithin}
+use Rattle.data_types.specs.promise.Table.{Column, Columns as StructOf, Members}
+use Rattle.tree_model.specs.promise.TreeParts.{IsLive, children_of, child_at}
+use Rattle.tree_model.specs.promise.TreeData.{Released}
+use Rattle.raw_array.specs.promise.Members.{ArrayTree, members_of}
 use Rattle.raw_array.specs.Windows.{Window}
-use Rattle.data_types.specs.KindTrees.{KindTree}
-use Rattle.layout_rules.specs.Layout.{end}
-use Rattle.layout_rules.specs.Values.{tree_items}
-use Rattle.layout_rules.specs.Walk.{LayoutOk}
-use Rattle.data_types.specs.ColumnKinds.{table_type, type_of_kind, types_of_columns}
+use Rattle.data_types.specs.promise.KindTrees.{KindTree}
+use Rattle.layout_rules.specs.promise.Layout.{end}
+use Rattle.layout_rules.specs.promise.Values.{tree_items}
+use Rattle.layout_rules.specs.promise.Walk.{LayoutOk}
+use Rattle.data_types.specs.promise.ColumnKinds.{table_type, type_of_kind, types_of_columns}
 use Rattle.arr_move.specs.TreeActs.{FitParentWindow}
 use Rattle.array_laws.specs.Picking.{AreLive}
 use Rattle.stages.specs.Children.{ShowsChildren}

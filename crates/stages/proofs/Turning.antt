@@ -6,17 +6,20 @@ use Rattle.std.proofs.lemmas.Int.{ints}
 use Rattle.std.proofs.lemmas.List.{append_assoc, append_cancel_right, map-append}
 use Rattle.std.proofs.lemmas.List.Sums.{sum_by-cons}
 use Rattle.data_types.specs.ColumnView.{column_of}
-use Rattle.data_types.specs.Table.{Column, Row}
+use Rattle.data_types.specs.promise.Table.{Column, Row}
 use Rattle.data_types.specs.declared.kind.ColumnType.{ColumnType}
 use Rattle.data_types.specs.declared.row_fault.RowFault.{RowFault}
-use Rattle.tree_model.specs.Tree.{IsLive, Live, Released}
-use Rattle.raw_array.specs.Members.{ArrayTree, Cost}
-use Rattle.data_types.specs.ColumnKinds.{type_of_columns}
-use Rattle.data_types.specs.KindTrees.{KindTree, TypedOk}
-use Rattle.unit_pass.specs.Tally.{Tally, risen}
+use Rattle.tree_model.specs.promise.TreeParts.{IsLive}
+use Rattle.tree_model.specs.promise.TreeData.{Live, Released}
+use Rattle.raw_array.specs.promise.Members.{ArrayTree, Cost}
+use Rattle.data_types.specs.promise.ColumnKinds.{type_of_columns}
+use Rattle.data_types.specs.promise.KindTrees.{KindTree}
+use Rattle.data_types.specs.KindTrees.{TypedOk}
+use Rattle.unit_pass.specs.promise.Tally.{risen}
+use Rattle.unit_pass.specs.Tally.{Tally}
 use Rattle.stream_face.specs.Calls.{Answers, Counts, GoesOn, IsCode}
 use Rattle.stream_face.specs.Lawful.{IsChunkOf, LawfulColumns, LawfulTables, total_rows}
-use Rattle.stream_face.specs.Shown.{Seen, Shown, of_link, rows_of_link, rows_shown}
+use Rattle.stream_face.specs.promise.Shown.{Seen, Shown, of_link, rows_of_link, rows_shown}
 use Rattle.stream_face.specs.Streams.{IsFresh, Stream, Traffic}
 use Rattle.stages.specs.Steps.{GivesNothing, GivesOut, IsNext, TakesIn, Turns, due_by, stepped}
 use Rattle.stream_face.proofs.Orders.{nil_part}

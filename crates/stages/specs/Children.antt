@@ -1,7 +1,7 @@
 -- Children of an array that can be moved out of it ("The Arrow C Data Interface", "Moving child arrays").
 use Rattle.std.specs.Prelude.{◌<◌, ◌≤ℤ◌, ℕ, pos, length}
-use Rattle.tree_model.specs.Tree.{IsLive, children_of, child_at}
-use Rattle.raw_array.specs.Members.{ArrayTree, members_of}
+use Rattle.tree_model.specs.promise.TreeParts.{IsLive, children_of, child_at}
+use Rattle.raw_array.specs.promise.Members.{ArrayTree, members_of}
 use Rattle.raw_array.specs.Windows.{FitsWindow}
 
 -- a live array whose children have the items that it shows

@@ -1,8 +1,8 @@
 -- What a stage's calls still count.
 use Rattle.std.specs.Prelude.{◌+◌, List, Some}
 use Rattle.std.specs.List.{sum_by}
-use Rattle.data_types.specs.Table.{Column, Row}
-use Rattle.stage_model.specs.Traffic.{made_blocks, made_nodes}
+use Rattle.data_types.specs.promise.Table.{Column, Row}
+use Rattle.stage_model.specs.promise.Traffic.{made_blocks, made_nodes}
 use Rattle.stage_model.specs.declared.stage.Step.{Step}
 use Rattle.stream_face.specs.Streams.{Traffic}
 

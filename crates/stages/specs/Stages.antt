@@ -1,9 +1,9 @@
 -- What a stage means.
 use Rattle.std.specs.Prelude.{ℕ, List, Option}
-use Rattle.data_types.specs.Table.{Row}
+use Rattle.data_types.specs.promise.Table.{Row}
 use Rattle.data_types.specs.declared.kind.ColumnType.{ColumnType}
 use Rattle.data_types.specs.declared.row_fault.RowFault.{RowFault}
-use Rattle.raw_array.specs.Members.{ArrayTree}
+use Rattle.raw_array.specs.promise.Members.{ArrayTree}
 use Rattle.stream_face.specs.Meaning.{meaning, raw_link}
 use Rattle.stream_face.specs.Streams.{Stream}
 use Rattle.stages.specs.Staged.{staged}

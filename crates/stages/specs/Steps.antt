@@ -2,14 +2,17 @@
 use Rattle.std.specs.Prelude.{◌≡◌, ◌+◌, ℕ, Bool, true, IsTrue, List, [], ◌∷◌, map, Option, None, Some}
 use Rattle.std.specs.List.{sum_by}
 use Rattle.data_types.specs.ColumnView.{column_of}
-use Rattle.data_types.specs.Table.{Column, Row}
+use Rattle.data_types.specs.promise.Table.{Column, Row}
 use Rattle.data_types.specs.declared.kind.ColumnType.{ColumnType}
 use Rattle.data_types.specs.declared.row_fault.RowFault.{RowFault}
-use Rattle.tree_model.specs.Tree.{IsLive, Released}
-use Rattle.raw_array.specs.Members.{ArrayTree, Cost}
-use Rattle.data_types.specs.ColumnKinds.{type_of_columns}
-use Rattle.data_types.specs.KindTrees.{KindTree, TypedOk}
-use Rattle.unit_pass.specs.Tally.{Tally, risen}
+use Rattle.tree_model.specs.promise.TreeParts.{IsLive}
+use Rattle.tree_model.specs.promise.TreeData.{Released}
+use Rattle.raw_array.specs.promise.Members.{ArrayTree, Cost}
+use Rattle.data_types.specs.promise.ColumnKinds.{type_of_columns}
+use Rattle.data_types.specs.promise.KindTrees.{KindTree}
+use Rattle.data_types.specs.KindTrees.{TypedOk}
+use Rattle.unit_pass.specs.promise.Tally.{risen}
+use Rattle.unit_pass.specs.Tally.{Tally}
 use Rattle.stream_face.specs.Lawful.{IsChunkOf, LawfulColumns, LawfulTables}
 use Rattle.stream_face.specs.Streams.{Stream, Traffic}
 

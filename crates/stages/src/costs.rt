@@ -1,10 +1,10 @@
 //! What chunks of columns cost at most.
 ghost use Rattle.std.specs.Prelude.{◌≤◌, ◌+◌, ◌*◌, List, All};
 ghost use Rattle.data_types.specs.ColumnForms.{AreColumnKinds};
-ghost use Rattle.data_types.specs.Table.{Column};
-ghost use Rattle.data_types.specs.ColumnKinds.{type_of_columns};
-ghost use Rattle.layout_rules.specs.Walk.{ChunkOk};
-ghost use Rattle.raw_array.specs.Members.{ArrayTree, Cost};
+ghost use Rattle.data_types.specs.promise.Table.{Column};
+ghost use Rattle.data_types.specs.promise.ColumnKinds.{type_of_columns};
+ghost use Rattle.layout_rules.specs.promise.Walk.{ChunkOk};
+ghost use Rattle.raw_array.specs.promise.Members.{ArrayTree, Cost};
 ghost use Rattle.stages.specs.Structs.{column_structs};
 ghost use Rattle.stream_face.specs.Lawful.{DictsHaveBytes, column_leaves};
 

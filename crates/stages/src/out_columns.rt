@@ -1,12 +1,13 @@
 //! The columns after a stage, with what the making of their schema asks for.
 ghost use Rattle.std.specs.Prelude.{◌≡◌, ◌+◌, ◌≤◌, All, map, IfOk, MatchResult};
-ghost use Rattle.data_types.specs.KindTrees.{most_levels};
-ghost use Rattle.unit_pass.specs.Tally.{risen};
+ghost use Rattle.data_types.specs.promise.KindTrees.{most_levels};
+ghost use Rattle.unit_pass.specs.promise.Tally.{risen};
 ghost use Rattle.unit_pass.specs.declared.pass.TheConstants.{CHUNK};
 ghost use Rattle.data_types.specs.ColumnView.{column_of};
 ghost use Rattle.tree_model.specs.Tree.{Depth};
-ghost use Rattle.raw_schema.specs.Members.{Nodes};
-ghost use Rattle.schema_check.specs.ColumnSchema.{KindsOk, SchemaOf};
+ghost use Rattle.tree_model.specs.promise.TreeCost.{Nodes};
+ghost use Rattle.schema_check.specs.promise.ColumnSchema.{SchemaOf};
+ghost use Rattle.schema_check.specs.ColumnSchema.{KindsOk};
 
 use arr_export::export_schema;
 use data_types::ColumnType;
@@ -26,12 +27,13 @@ impl Model for OutColumns {
     ghost use Rattle.std.specs.Coded.{codes};
     ghost use Rattle.unit_pass.specs.declared.pass.TheConstants.{CHUNK};
     ghost use Rattle.tree_model.specs.Tree.{Depth};
-    ghost use Rattle.raw_schema.specs.Members.{Nodes};
+    ghost use Rattle.tree_model.specs.promise.TreeCost.{Nodes};
     ghost use Rattle.data_types.specs.ColumnView.{column_of};
-    ghost use Rattle.data_types.specs.KindTrees.{most_levels};
+    ghost use Rattle.data_types.specs.promise.KindTrees.{most_levels};
     ghost use Rattle.data_types.specs.declared.kind.ColumnType.{ColumnType};
     ghost use Rattle.data_types.specs.contracts.kind.ColumnType as columns;
-    ghost use Rattle.schema_check.specs.ColumnSchema.{KindsOk, SchemaOf};
+    ghost use Rattle.schema_check.specs.promise.ColumnSchema.{SchemaOf};
+    ghost use Rattle.schema_check.specs.ColumnSchema.{KindsOk};
 
     ghost Value = { List ColumnType };
 

@@ -1,12 +1,13 @@
 //! Laws on stages that no rule refuses, and on the schemas of their columns. The calls do nothing.
 ghost use Rattle.std.specs.Prelude.{◌≡◌, ◌≤◌, ◌+◌, ◌*◌, List, All, length};
 ghost use Rattle.data_types.specs.ColumnForms.{AreColumnKinds};
-ghost use Rattle.data_types.specs.Table.{Column};
+ghost use Rattle.data_types.specs.promise.Table.{Column};
 ghost use Rattle.tree_model.specs.Tree.{Depth};
-ghost use Rattle.raw_schema.specs.Members.{Nodes};
-ghost use Rattle.schema_check.specs.ColumnSchema.{SchemaOf};
-ghost use Rattle.stage_model.specs.Traffic.{Made, table_nodes};
-ghost use Rattle.stage_model.specs.Typing.{IsStageOver, Stage, most_columns};
+ghost use Rattle.tree_model.specs.promise.TreeCost.{Nodes};
+ghost use Rattle.schema_check.specs.promise.ColumnSchema.{SchemaOf};
+ghost use Rattle.stage_model.specs.promise.Traffic.{Made, table_nodes};
+ghost use Rattle.stage_model.specs.promise.Typing.{Stage, most_columns};
+ghost use Rattle.stage_model.specs.Typing.{IsStageOver};
 ghost use Rattle.stream_face.specs.Lawful.{DictsHaveBytes, column_leaves};
 ghost use Rattle.stages.specs.Structs.{column_structs};
 ghost use Rattle.stages.specs.Distinct.{DistinctPicks};

@@ -2,10 +2,11 @@
 ghost use Rattle.std.specs.Prelude.{◌≡◌, ◌≢◌, ◌+◌, ◌≤◌, List, [], ◌∷◌, map, pos, None, IsTrue, IfOk, OnErr, OnOk, MatchResult, get_or, true, false};
 ghost use Rattle.std.specs.Thread.{IsSync};
 ghost use Rattle.data_types.specs.ColumnView.{column_of};
-ghost use Rattle.data_types.specs.Table.{Column, Row};
-ghost use Rattle.tree_model.specs.Tree.{IsLive, Released};
-ghost use Rattle.raw_array.specs.Members.{ArrayTree, Cost};
-ghost use Rattle.data_types.specs.TypedView.{typed_of};
+ghost use Rattle.data_types.specs.promise.Table.{Column, Row};
+ghost use Rattle.tree_model.specs.promise.TreeParts.{IsLive};
+ghost use Rattle.tree_model.specs.promise.TreeData.{Released};
+ghost use Rattle.raw_array.specs.promise.Members.{ArrayTree, Cost};
+ghost use Rattle.data_types.specs.promise.TypedView.{typed_of};
 ghost use Rattle.unit_pass.specs.declared.pass.TheConstants.{ROOM, SUPPLY};
 ghost use Rattle.stream_face.specs.Calls.{Answers, Counts, IsCode, IsRowFault, Repeats, ShowsInOrder, Tells};
 ghost use Rattle.stream_face.specs.Codes.{enomem};

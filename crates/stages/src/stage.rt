@@ -1,9 +1,10 @@
 //! A stage: the checked stream below it, and its step.
 ghost use Rattle.std.specs.Prelude.{◌≡◌, ◌≢◌, ◌+◌, ◌≤◌, IsTrue, List, [], Some, false, get_or, pos, true};
 ghost use Rattle.std.specs.Thread.{IsSync};
-ghost use Rattle.data_types.specs.Table.{Row};
-ghost use Rattle.tree_model.specs.Tree.{IsLive, Released};
-ghost use Rattle.raw_array.specs.Members.{ArrayTree, Cost};
+ghost use Rattle.data_types.specs.promise.Table.{Row};
+ghost use Rattle.tree_model.specs.promise.TreeParts.{IsLive};
+ghost use Rattle.tree_model.specs.promise.TreeData.{Released};
+ghost use Rattle.raw_array.specs.promise.Members.{ArrayTree, Cost};
 ghost use Rattle.unit_pass.specs.declared.pass.TheConstants.{ROOM};
 ghost use Rattle.stream_face.specs.Calls.{Answers, Counts, IsCode, IsRowFault, IsTold, Repeats, ShowsInOrder, Tells};
 ghost use Rattle.stream_face.specs.Codes.{enomem};

@@ -2,11 +2,11 @@
 ghost use Rattle.std.specs.Prelude.{◌≡◌, ◌+◌, ◌≤◌, ℕ, Bool, List, [], ◌∷◌, map, Option, None, Some, IsTrue, IfOk, MatchResult};
 ghost use Rattle.std.specs.Thread.{IsSync};
 ghost use Rattle.data_types.specs.ColumnView.{column_of};
-ghost use Rattle.data_types.specs.Table.{Column, Row};
+ghost use Rattle.data_types.specs.promise.Table.{Column, Row};
 ghost use Rattle.data_types.specs.declared.kind.ColumnType.{ColumnType};
 ghost use Rattle.data_types.specs.declared.row_fault.RowFault.{RowFault};
-ghost use Rattle.raw_array.specs.Members.{ArrayTree, Cost};
-ghost use Rattle.data_types.specs.TypedView.{typed_of};
+ghost use Rattle.raw_array.specs.promise.Members.{ArrayTree, Cost};
+ghost use Rattle.data_types.specs.promise.TypedView.{typed_of};
 ghost use Rattle.unit_pass.specs.declared.pass.TheConstants.{ROOM, SUPPLY};
 ghost use Rattle.stream_face.specs.Lawful.{LawfulColumns, LawfulTables};
 ghost use Rattle.stages.specs.Steps.{Finishes, IsNext, Pushes, cost_given};

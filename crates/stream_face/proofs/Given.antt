@@ -6,17 +6,19 @@ use Rattle.std.proofs.Props.{props}
 use Rattle.std.proofs.lemmas.Bool.Decides.{eqb_tells}
 use Rattle.std.specs.Coded.{Unit-prop, ×_prop}
 use Rattle.data_types.specs.ColumnForms.{AreColumnKinds, HasForm, IsColumnKind, MembersAreColumns}
-use Rattle.data_types.specs.FieldText.{Form, form_of}
+use Rattle.data_types.specs.promise.FieldText.{Form, form_of}
 use Rattle.data_types.specs.Kinds.{KindOk}
-use Rattle.data_types.specs.Table.{Column, Kind, Flat, Dict, Columns, Members, no_members, more_members, Row}
+use Rattle.data_types.specs.promise.Table.{Column, Kind, Flat, Dict, Columns, Members, no_members, more_members, Row}
 use Rattle.data_types.specs.declared.kind.DataType.{DataType}
 use Rattle.data_types.specs.declared.kind.DataType.TheVariants as kinds
-use Rattle.data_types.specs.ColumnKinds.{type_of_columns}
-use Rattle.layout_rules.specs.Values.{rows_of}
-use Rattle.raw_array.specs.Members.{ArrayTree}
-use Rattle.schema_check.specs.ColumnSchema.{SchemaOf}
-use Rattle.schema_check.specs.Schemas.{TypedOf}
-use Rattle.tree_model.specs.Tree.{Depth, Released, children_of}
+use Rattle.data_types.specs.promise.ColumnKinds.{type_of_columns}
+use Rattle.layout_rules.specs.promise.Values.{rows_of}
+use Rattle.raw_array.specs.promise.Members.{ArrayTree}
+use Rattle.schema_check.specs.promise.ColumnSchema.{SchemaOf}
+use Rattle.schema_check.specs.promise.Schemas.{TypedOf}
+use Rattle.tree_model.specs.promise.TreeData.{Released}
+use Rattle.tree_model.specs.promise.TreeParts.{children_of}
+use Rattle.tree_model.specs.Tree.{Depth}
 use Rattle.stream_face.specs.Lawful.{DictsAreFull, DictsHaveBytes, HasBytes, IsChunkOf, LawfulColumns, MemberDictsAreFull, MemberDictsHaveBytes}
 
 none : IsProp ⊥

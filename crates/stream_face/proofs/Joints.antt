@@ -3,19 +3,21 @@ use Rattle.std.proofs.Common.{◌≡◌, ◌≢◌, ◌==◌, ◌++◌, ℕ, ℤ
 use Rattle.std.proofs.Common.{inr, IsTrue}
 use Rattle.std.proofs.lemmas.Bool.Decides.{eqb_tells}
 use Rattle.std.proofs.lemmas.List.{append-nil, append_assoc}
-use Rattle.data_types.specs.Table.{Column, Row}
-use Rattle.tree_model.specs.Tree.{Tree, Released, Live, IsLive}
+use Rattle.data_types.specs.promise.Table.{Column, Row}
+use Rattle.tree_model.specs.promise.TreeData.{Tree, Released, Live}
+use Rattle.tree_model.specs.promise.TreeParts.{IsLive}
 use Rattle.unit_pass.specs.Tally.{Tally}
-use Rattle.raw_array.specs.Members.{ArrayTree}
-use Rattle.raw_schema.specs.Members.{SchemaTree}
-use Rattle.data_types.specs.KindTrees.{KindTree}
-use Rattle.data_types.specs.ColumnKinds.{type_of_columns}
-use Rattle.schema_check.specs.ColumnSchema.{SchemaOf}
-use Rattle.schema_check.specs.Schemas.{TypedOf}
-use Rattle.stream_face.specs.Calls.{Answers, Begins, Repeats, Shows, Tells}
+use Rattle.raw_array.specs.promise.Members.{ArrayTree}
+use Rattle.raw_schema.specs.promise.Members.{SchemaTree}
+use Rattle.data_types.specs.promise.KindTrees.{KindTree}
+use Rattle.data_types.specs.promise.ColumnKinds.{type_of_columns}
+use Rattle.schema_check.specs.promise.ColumnSchema.{SchemaOf}
+use Rattle.schema_check.specs.promise.Schemas.{TypedOf}
+use Rattle.stream_face.specs.promise.Calls.{Begins}
+use Rattle.stream_face.specs.Calls.{Answers, Repeats, Shows, Tells}
 use Rattle.stream_face.specs.Codes.{einval, enomem}
 use Rattle.stream_face.specs.Raw.{raw_joints, raw_state, refusal_or}
-use Rattle.stream_face.specs.Shown.{Seen, Shown, grown, of_link, seen_of, shown_table, shown_tables}
+use Rattle.stream_face.specs.promise.Shown.{Seen, Shown, grown, of_link, seen_of, shown_table, shown_tables}
 use Rattle.stream_face.specs.Streams.{IsFresh, Stream, is_nil}
 use Rattle.stream_face.specs.Texts.{Refusal}
 use Rattle.stream_face.specs.declared.fault.Failure.{Failure}

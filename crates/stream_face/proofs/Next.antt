@@ -3,17 +3,18 @@ use Rattle.std.proofs.Common.{Bool, true, false, IsTrue, ◌≡◌, ◌≢◌, �
 use Rattle.std.proofs.Common.{◌∙◌, ap, subst, inl, inr, arith}
 use Rattle.std.specs.Int.Signed.{mag}
 use Rattle.std.proofs.Math.Facts.{to_z-of_z}
-use Rattle.tree_model.specs.Tree.{Released, IsLive}
-use Rattle.raw_array.specs.Members.{ArrayTree}
+use Rattle.tree_model.specs.promise.TreeData.{Released}
+use Rattle.tree_model.specs.promise.TreeParts.{IsLive}
+use Rattle.raw_array.specs.promise.Members.{ArrayTree}
 use Rattle.unit_pass.specs.Tally.{Tally}
-use Rattle.data_types.specs.KindTrees.{KindTree}
+use Rattle.data_types.specs.promise.KindTrees.{KindTree}
 use Rattle.layout_rules.specs.declared.rule.LayoutFault.{LayoutFault}
 use Rattle.stream_face.specs.Calls.{Answers, IsCode, IsRowFault, IsTold, Repeats, Tells}
 use Rattle.stream_face.specs.Codes.{enomem}
 use Rattle.stream_face.specs.Failures.{why}
 use Rattle.stream_face.specs.Faults.{IsOwnFault, IsWhy, code_of}
 use Rattle.stream_face.specs.Raw.{raw_state, refusal_or, row_or}
-use Rattle.stream_face.specs.Shown.{Seen}
+use Rattle.stream_face.specs.promise.Shown.{Seen}
 use Rattle.stream_face.specs.Streams.{IsFresh, Keeps, Stream}
 use Rattle.stream_face.specs.Texts.{Refusal, refused_row, wanting}
 use Rattle.stream_face.specs.declared.fault.Failure.{Failure}

@@ -3,18 +3,21 @@ use Rattle.std.proofs.Common.{◌≡◌, ◌≢◌, ◌==◌, ◌++◌, ◌⊎�
 use Rattle.std.proofs.Common.{inl, inr, get_or, drop, map, true≢false}
 use Rattle.std.proofs.lemmas.Bool.Decides.{eqb_tells}
 use Rattle.std.proofs.lemmas.List.{append-nil, append_assoc, map-append}
-use Rattle.data_types.specs.Table.{Column, Row}
-use Rattle.tree_model.specs.Tree.{Released, IsLive}
-use Rattle.raw_array.specs.Members.{ArrayTree}
-use Rattle.raw_schema.specs.Members.{SchemaTree}
-use Rattle.data_types.specs.KindTrees.{KindTree}
-use Rattle.data_types.specs.ColumnKinds.{type_of_columns}
-use Rattle.schema_check.specs.ColumnSchema.{SchemaOf}
-use Rattle.stream_face.specs.Calls.{Answers, Begins, GoesOn, InOrder, IsMade, Shows, ShowsInOrder}
+use Rattle.data_types.specs.promise.Table.{Column, Row}
+use Rattle.tree_model.specs.promise.TreeData.{Released}
+use Rattle.tree_model.specs.promise.TreeParts.{IsLive}
+use Rattle.raw_array.specs.promise.Members.{ArrayTree}
+use Rattle.raw_schema.specs.promise.Members.{SchemaTree}
+use Rattle.data_types.specs.promise.KindTrees.{KindTree}
+use Rattle.data_types.specs.promise.ColumnKinds.{type_of_columns}
+use Rattle.schema_check.specs.promise.ColumnSchema.{SchemaOf}
+use Rattle.stream_face.specs.promise.Calls.{Begins, IsMade}
+use Rattle.stream_face.specs.Calls.{Answers, GoesOn, InOrder, Shows, ShowsInOrder}
 use Rattle.stream_face.specs.Codes.{enomem}
 use Rattle.stream_face.specs.Raw.{apart, raw_joints, raw_makings, raw_state}
-use Rattle.stream_face.specs.Shown.{Seen, Shown, grown, of_link, rows_of_link, rows_shown, seen_of, shown_tables}
-use Rattle.stream_face.specs.Streams.{Making, Stream}
+use Rattle.stream_face.specs.promise.Shown.{Seen, Shown, grown, of_link, rows_of_link, rows_shown, seen_of, shown_tables}
+use Rattle.stream_face.specs.promise.Streams.{Making}
+use Rattle.stream_face.specs.Streams.{Stream}
 use Rattle.stream_face.specs.declared.fault.StreamFault.{StreamFault}
 use Rattle.stream_face.proofs.Joints.{Shows-raw_chunk, Shows-raw_ends, Shows-raw_wants, had_memory, of_link-append, of_link-none, seen_table}
 

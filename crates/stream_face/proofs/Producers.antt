@@ -2,16 +2,20 @@
 -- and of a call that counts and shows nothing.
 use Rattle.std.proofs.Common.{◌≡◌, ◌≢◌, ◌<◌, ◌^◌, ◌∙◌, ◌⊎◌, ℕ, ℤ, pos, List, [], ◌∷◌, Option, None, Some, refl, sym, ap, subst, arith, inl, inr}
 use Rattle.std.proofs.Common.{append-nil}
-use Rattle.data_types.specs.Table.{Row}
+use Rattle.data_types.specs.promise.Table.{Row}
 use Rattle.data_types.specs.declared.row_fault.RowFault.{RowFault}
-use Rattle.raw_array.specs.Members.{ArrayTree}
-use Rattle.tree_model.specs.Tree.{IsLive, Live, Released}
-use Rattle.unit_pass.specs.Tally.{Tally, risen}
-use Rattle.stream_face.specs.Calls.{Answers, Counts, GoesOn, IsMade, Shows, ShowsInOrder}
+use Rattle.raw_array.specs.promise.Members.{ArrayTree}
+use Rattle.tree_model.specs.promise.TreeParts.{IsLive}
+use Rattle.tree_model.specs.promise.TreeData.{Live, Released}
+use Rattle.unit_pass.specs.promise.Tally.{risen}
+use Rattle.unit_pass.specs.Tally.{Tally}
+use Rattle.stream_face.specs.promise.Calls.{IsMade}
+use Rattle.stream_face.specs.Calls.{Answers, Counts, GoesOn, Shows, ShowsInOrder}
 use Rattle.stream_face.specs.Codes.{einval, enomem}
 use Rattle.stream_face.specs.Lawful.{IsChunkOf}
-use Rattle.stream_face.specs.Shown.{Seen, Shown, grown}
-use Rattle.stream_face.specs.Streams.{Making, Stream, Traffic}
+use Rattle.stream_face.specs.promise.Shown.{Seen, Shown, grown}
+use Rattle.stream_face.specs.promise.Streams.{Making}
+use Rattle.stream_face.specs.Streams.{Stream, Traffic}
 use Rattle.stream_face.specs.Texts.{refused_row, wanting}
 
 pub not-released : (out : ArrayTree) → IsLive out → out ≡ Released → ⊥

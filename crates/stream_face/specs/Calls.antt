@@ -1,17 +1,22 @@
 -- What the calls of a stream answer ("The Arrow C Stream Interface", "The ArrowArrayStream structure").
 use Rattle.std.specs.Prelude.{◌≡◌, ◌≢◌, ◌⊎◌, ◌+◌, ◌≤ℤ◌, ◌++◌, ℕ, ℤ, pos, List, [], ◌∷◌, Option, Some, None}
 use Rattle.data_types.specs.declared.row_fault.RowFault.{RowFault}
-use Rattle.data_types.specs.Table.{Column, Row}
-use Rattle.tree_model.specs.Tree.{Released, IsLive}
-use Rattle.raw_array.specs.Members.{ArrayTree}
-use Rattle.raw_schema.specs.Members.{SchemaTree, Nodes}
-use Rattle.unit_pass.specs.Tally.{Tally, risen}
-use Rattle.schema_check.specs.ColumnSchema.{SchemaOf}
+use Rattle.data_types.specs.promise.Table.{Column, Row}
+use Rattle.tree_model.specs.promise.TreeData.{Released}
+use Rattle.tree_model.specs.promise.TreeParts.{IsLive}
+use Rattle.raw_array.specs.promise.Members.{ArrayTree}
+use Rattle.raw_schema.specs.promise.Members.{SchemaTree}
+use Rattle.tree_model.specs.promise.TreeCost.{Nodes}
+use Rattle.unit_pass.specs.promise.Tally.{risen}
+use Rattle.unit_pass.specs.Tally.{Tally}
+use Rattle.schema_check.specs.promise.ColumnSchema.{SchemaOf}
 use Rattle.stream_face.specs.Codes.{einval, enomem}
 use Rattle.stream_face.specs.Lawful.{IsChunkOf}
-use Rattle.stream_face.specs.Shown.{Seen, Shown, grown, of_link, rows_of_link, rows_shown}
-use Rattle.stream_face.specs.Streams.{Making, Stream, Traffic}
+use Rattle.stream_face.specs.promise.Shown.{Seen, Shown, grown, of_link, rows_of_link, rows_shown}
+use Rattle.stream_face.specs.promise.Streams.{Making}
+use Rattle.stream_face.specs.Streams.{Stream, Traffic}
 use Rattle.stream_face.specs.Texts.{Refusal, refused_row, wanting}
+use Rattle.stream_face.specs.promise.Calls.{Begins, IsMade}
 
 -- ---- any stream
 
@@ -58,10 +63,6 @@ pub record Answers (old new : Stream) (code : ℤ) (out : ArrayTree) : Type 0 wh
   pub wants : code ≡ enomem → new.said ≡ Some wanting
   pub codes : (code ≡ pos 0) ⊎ (code ≡ enomem) ⊎ (code ≡ einval)
 
--- the first list begins the second
-abbrev pub Begins : {A : Type 0} → List A → List A → Type 0
-Begins {A} xs ys = (more : List A) × (ys ≡ xs ++ more)
-
 -- what a call shows: a prefix of each link's tables, which then leaves them, unless memory ran out; and all that was left where nothing
 -- is given: at the end, and at a record that is refused
 pub record Shows (old new : ℕ → List Shown) (code : ℤ) (out : ArrayTree) (before after : Option (List Seen)) : Type 0 where
@@ -70,11 +71,6 @@ pub record Shows (old new : ℕ → List Shown) (code : ℤ) (out : ArrayTree) (
   pub begins : (link : ℕ) → Begins (of_link link shown) (old link)
   pub leaves : code ≢ enomem → (link : ℕ) → old link ≡ of_link link shown ++ new link
   pub ends : code ≢ enomem → out ≡ Released → (link : ℕ) → new link ≡ []
-
--- of a link no more was seen than what is made of what was seen of the link of whose tables its own are made
-abbrev pub IsMade : Option Making → ℕ → List Seen → Type 0
-IsMade None link seen = Unit {0}
-IsMade (Some making) link seen = Begins (rows_of_link link seen) (making.makes (rows_of_link making.link seen))
 
 -- how tables are made after these were seen, of which those that are given were made: of the first ones of those that are left
 abbrev pub GoesOn : Option Making → Option Making → (ℕ → List Shown) → List Seen → List (List Row) → Type 0

@@ -3,7 +3,7 @@ use Rattle.std.specs.Prelude.{ℕ, ℤ, ◌++◌, List, codes}
 use Rattle.std.specs.Fmt.{signed_decimal}
 use Rattle.data_types.specs.FaultTexts.{row_fault_text}
 use Rattle.schema_check.specs.FaultTexts.{schema_fault_text}
-use Rattle.layout_rules.specs.FaultTexts.{layout_fault_text}
+use Rattle.layout_rules.specs.promise.FaultTexts.{layout_fault_text}
 use Rattle.stream_face.specs.declared.fault.StartFault.{StartFault}
 use Rattle.stream_face.specs.declared.fault.StartFault.TheVariants as start
 use Rattle.stream_face.specs.declared.fault.StreamFault.{StreamFault}

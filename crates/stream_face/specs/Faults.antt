@@ -1,11 +1,11 @@
 -- Why a stream was not started, and why a call of a checked stream refused.
 use Rattle.std.specs.Prelude.{◌≡◌, ◌≢◌, ℕ, ℤ, pos, List, Option, Some, None, IsTrue, false}
-use Rattle.raw_array.specs.Members.{ArrayTree}
-use Rattle.raw_schema.specs.Members.{SchemaTree}
-use Rattle.data_types.specs.KindTrees.{KindTree}
+use Rattle.raw_array.specs.promise.Members.{ArrayTree}
+use Rattle.raw_schema.specs.promise.Members.{SchemaTree}
+use Rattle.data_types.specs.promise.KindTrees.{KindTree}
 use Rattle.layout_rules.specs.Found.{fault_of}
 use Rattle.schema_check.specs.SchemaAnswers.{IsFirstFault}
-use Rattle.layout_rules.specs.Walk.{first_chunk_fault}
+use Rattle.layout_rules.specs.promise.Walk.{first_chunk_fault}
 use Rattle.schema_check.specs.declared.schema.SchemaFault.TheVariants as schemas
 use Rattle.stream_face.specs.declared.fault.StartFault.{StartFault}
 use Rattle.stream_face.specs.declared.fault.StartFault.TheVariants as start

@@ -1,23 +1,25 @@
 -- What holds of a lawful stream: of its columns, of the tables that it still gives, and of each chunk that it gives.
 use Rattle.std.specs.Prelude.{◌≡◌, ◌≢◌, ◌+◌, ◌^◌, ◌<◌, ◌≤◌, ℕ, List, [], ◌∷◌, length, map, drop, get_or, All}
 use Rattle.std.specs.List.{AllByRecursion}
-use Rattle.data_types.specs.KindTrees.{most_levels}
+use Rattle.data_types.specs.promise.KindTrees.{most_levels}
 use Rattle.data_types.specs.declared.kind.DataType.{DataType}
 use Rattle.data_types.specs.declared.kind.DataType.TheVariants as kinds
 use Rattle.data_types.specs.ColumnForms.{AreColumnKinds}
 use Rattle.data_types.specs.FieldText.{IsValueOf}
-use Rattle.data_types.specs.Parts.{column_values, fields_of, member_columns, value_list}
-use Rattle.data_types.specs.Table.{Column, Row, Kind, Flat, Dict, Columns, Members, no_members, more_members}
-use Rattle.data_types.specs.Value.{Value, Null, Fields, byte_total}
-use Rattle.tree_model.specs.Tree.{Live, Released, no_trees, absent, Depth, children_of, child_at, dictionary_at}
-use Rattle.raw_array.specs.Members.{ArrayTree, Cost}
-use Rattle.raw_schema.specs.Members.{Nodes}
+use Rattle.data_types.specs.promise.Parts.{column_values, fields_of, member_columns, value_list}
+use Rattle.data_types.specs.promise.Table.{Column, Row, Kind, Flat, Dict, Columns, Members, no_members, more_members}
+use Rattle.data_types.specs.promise.Value.{Value, Null, Fields, byte_total}
+use Rattle.tree_model.specs.promise.TreeData.{Live, Released, no_trees, absent}
+use Rattle.tree_model.specs.promise.TreeParts.{children_of, child_at}
+use Rattle.tree_model.specs.Tree.{Depth, dictionary_at}
+use Rattle.raw_array.specs.promise.Members.{ArrayTree, Cost}
+use Rattle.tree_model.specs.promise.TreeCost.{Nodes}
 use Rattle.unit_pass.specs.declared.pass.TheConstants.{CHUNK}
-use Rattle.data_types.specs.ColumnKinds.{type_of_columns}
-use Rattle.schema_check.specs.ColumnSchema.{SchemaOf}
-use Rattle.schema_check.specs.Schemas.{TypedOf}
-use Rattle.layout_rules.specs.Values.{rows_of, values_of}
-use Rattle.layout_rules.specs.Walk.{ChunkOk}
+use Rattle.data_types.specs.promise.ColumnKinds.{type_of_columns}
+use Rattle.schema_check.specs.promise.ColumnSchema.{SchemaOf}
+use Rattle.schema_check.specs.promise.Schemas.{TypedOf}
+use Rattle.layout_rules.specs.promise.Values.{rows_of, values_of}
+use Rattle.layout_rules.specs.promise.Walk.{ChunkOk}
 
 -- ---- its columns
 

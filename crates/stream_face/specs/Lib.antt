@@ -1,4 +1,4 @@
-pub mod Shown
+pub mod promise
 pub mod Lawful
 pub mod Codes
 pub mod Texts

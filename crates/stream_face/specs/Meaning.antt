@@ -1,8 +1,9 @@
 -- What a checked stream means, and what is known of it.
 use Rattle.std.specs.Prelude.{ℕ, Option}
-use Rattle.raw_schema.specs.Members.{Nodes, SchemaTree}
-use Rattle.data_types.specs.KindTrees.{KindTree}
-use Rattle.data_types.specs.TypedView.{typed_of}
+use Rattle.tree_model.specs.promise.TreeCost.{Nodes}
+use Rattle.raw_schema.specs.promise.Members.{SchemaTree}
+use Rattle.data_types.specs.promise.KindTrees.{KindTree}
+use Rattle.data_types.specs.promise.TypedView.{typed_of}
 use Rattle.stream_face.specs.declared.fault.StreamFault.{StreamFault}
 use Rattle.stream_face.specs.declared.raw.RawStream.{RawStream}
 use Rattle.stream_face.specs.Failures.{why}

@@ -4,8 +4,9 @@ use Rattle.data_types.specs.declared.row_fault.RowFault.{RowFault}
 use Rattle.stream_face.specs.declared.fault.StreamFault.{StreamFault}
 use Rattle.stream_face.specs.declared.fault.StreamFault.TheVariants.{Row, Chunk, Code, NoMemory}
 use Rattle.stream_face.specs.Faults.{code_of, fault_text}
-use Rattle.stream_face.specs.Shown.{Shown, shown_tables}
-use Rattle.stream_face.specs.Streams.{Making, Stream}
+use Rattle.stream_face.specs.promise.Shown.{Shown, shown_tables}
+use Rattle.stream_face.specs.promise.Streams.{Making}
+use Rattle.stream_face.specs.Streams.{Stream}
 use Rattle.stream_face.specs.Texts.{Refusal}
 
 -- the joints below a checked stream, with its own

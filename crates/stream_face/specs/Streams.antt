@@ -1,20 +1,16 @@
 -- What a stream of chunks means ("The Arrow C Stream Interface").
 use Rattle.std.specs.Prelude.{◌≡◌, ℕ, Bool, true, false, if◌then◌else◌, List, [], ◌∷◌, Option, None, IsTrue}
 use Rattle.data_types.specs.declared.row_fault.RowFault.{RowFault}
-use Rattle.data_types.specs.Table.{Column, Row}
-use Rattle.raw_array.specs.Members.{ArrayTree}
-use Rattle.raw_schema.specs.Members.{SchemaTree}
-use Rattle.stream_face.specs.Shown.{Shown}
+use Rattle.data_types.specs.promise.Table.{Column, Row}
+use Rattle.raw_array.specs.promise.Members.{ArrayTree}
+use Rattle.raw_schema.specs.promise.Members.{SchemaTree}
+use Rattle.stream_face.specs.promise.Shown.{Shown}
 use Rattle.stream_face.specs.Texts.{Refusal}
+use Rattle.stream_face.specs.promise.Streams.{Making}
 
 pub record Traffic : Type 0 where
   pub blocks : ℕ
   pub nodes : ℕ
-
--- how tables are made of those of a link: its number, and the tables that come of more of its tables, where these are the last
-pub record Making : Type 0 where
-  pub link : ℕ
-  pub makes : List (List Row) → List (List Row)
 
 pub record Stream : Type 0 where
   -- the columns of each of its tables

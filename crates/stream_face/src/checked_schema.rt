@@ -1,11 +1,13 @@
 //! A schema that was checked, with its kinds.
 ghost use Rattle.std.specs.Prelude.{◌≡◌, ◌+◌, ◌≤◌, IfOk, IfErr};
-ghost use Rattle.tree_model.specs.Tree.{Released, IsLive};
-ghost use Rattle.raw_schema.specs.Members.{Nodes};
-ghost use Rattle.data_types.specs.KindTrees.{KindTree, TypedOk};
-ghost use Rattle.schema_check.specs.Schemas.{TypedOf};
+ghost use Rattle.tree_model.specs.promise.TreeData.{Released};
+ghost use Rattle.tree_model.specs.promise.TreeParts.{IsLive};
+ghost use Rattle.tree_model.specs.promise.TreeCost.{Nodes};
+ghost use Rattle.data_types.specs.promise.KindTrees.{KindTree};
+ghost use Rattle.data_types.specs.KindTrees.{TypedOk};
+ghost use Rattle.schema_check.specs.promise.Schemas.{TypedOf};
 ghost use Rattle.schema_check.specs.SchemaAnswers.{IsFirstFault};
-ghost use Rattle.data_types.specs.TypedView.{typed_of};
+ghost use Rattle.data_types.specs.promise.TypedView.{typed_of};
 ghost use Rattle.schema_check.specs.declared.schema.SchemaFault.TheVariants as schemas;
 ghost use Rattle.unit_pass.specs.declared.pass.TheConstants.{SUPPLY};
 

@@ -5,15 +5,18 @@ ghost use Rattle.std.specs.Thread.{IsSync};
 ghost use Rattle.std.specs.Coded.{Coded-set, codes};
 ghost use Rattle.data_types.specs.declared.row_fault.RowFault.{RowFault as RowFaultValue};
 ghost use Rattle.data_types.specs.contracts.row_fault.RowFault as rows;
-ghost use Rattle.tree_model.specs.Tree.{Released, IsLive};
-ghost use Rattle.raw_array.specs.Members.{Cost};
-ghost use Rattle.raw_schema.specs.Members.{Nodes, coded_schema};
-ghost use Rattle.schema_check.specs.ColumnSchema.{SchemaOf};
-ghost use Rattle.data_types.specs.KindTrees.{KindTree, TypedOk};
-ghost use Rattle.schema_check.specs.Schemas.{TypedOf};
-ghost use Rattle.data_types.specs.TypedView.{typed_of};
-ghost use Rattle.layout_rules.specs.Walk.{ChunkOk};
-ghost use Rattle.unit_pass.specs.Tally.{risen};
+ghost use Rattle.tree_model.specs.promise.TreeData.{Released};
+ghost use Rattle.tree_model.specs.promise.TreeParts.{IsLive};
+ghost use Rattle.raw_array.specs.promise.Members.{Cost};
+ghost use Rattle.tree_model.specs.promise.TreeCost.{Nodes};
+ghost use Rattle.raw_schema.specs.Members.{coded_schema};
+ghost use Rattle.schema_check.specs.promise.ColumnSchema.{SchemaOf};
+ghost use Rattle.data_types.specs.promise.KindTrees.{KindTree};
+ghost use Rattle.data_types.specs.KindTrees.{TypedOk};
+ghost use Rattle.schema_check.specs.promise.Schemas.{TypedOf};
+ghost use Rattle.data_types.specs.promise.TypedView.{typed_of};
+ghost use Rattle.layout_rules.specs.promise.Walk.{ChunkOk};
+ghost use Rattle.unit_pass.specs.promise.Tally.{risen};
 ghost use Rattle.unit_pass.specs.declared.pass.TheConstants.{CHUNK, ROOM, SUPPLY};
 ghost use Rattle.stream_face.specs.Calls.{Answers, Counts, IsCode, IsRowFault, IsTold, Repeats, ShowsInOrder, Tells};
 ghost use Rattle.stream_face.specs.Checked.{is_live};
@@ -22,7 +25,7 @@ ghost use Rattle.stream_face.specs.Failures.{why};
 ghost use Rattle.stream_face.specs.Faults.{IsOwnFault, IsStartFault, IsWhy, code_of, fault_text};
 ghost use Rattle.stream_face.specs.Lawful.{LawfulColumns, LawfulTables};
 ghost use Rattle.stream_face.specs.Raw.{raw_state, row_or};
-ghost use Rattle.stream_face.specs.Shown.{Seen, grown, seen_of};
+ghost use Rattle.stream_face.specs.promise.Shown.{Seen, grown, seen_of};
 ghost use Rattle.stream_face.specs.Streams.{IsFresh, Keeps, Stream, is_nil, kept, telling};
 ghost use Rattle.stream_face.specs.Texts.{Refusal, lent_text, text_in};
 ghost use Rattle.stream_face.specs.declared.fault.StreamFault.{StreamFault as StreamFaultValue};
@@ -155,7 +158,7 @@ fn refuse_chunk(
 
 impl<S: ArrayStream> RawStream<S> {
     ghost use Rattle.stream_face.specs.Meaning.{below, meaning, raw_fault, raw_kinds, raw_link, raw_schema};
-    ghost use Rattle.data_types.specs.ColumnKinds.{type_of_columns};
+    ghost use Rattle.data_types.specs.promise.ColumnKinds.{type_of_columns};
 
     /// Asks the inner stream for its schema, once, and checks it. `link` is the number under which its chunks are shown.
     ///

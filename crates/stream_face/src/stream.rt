@@ -1,9 +1,9 @@
 //! The trait of streams of chunks.
 ghost use Rattle.std.specs.Prelude.{◌≡◌, ◌≢◌, ◌≤◌, ◌+◌, ◌↔◌, IsTrue, Some, false, not, pos};
 ghost use Rattle.std.specs.Thread.{IsSync};
-ghost use Rattle.tree_model.specs.Tree.{Released};
-ghost use Rattle.raw_array.specs.Members.{Cost};
-ghost use Rattle.raw_schema.specs.Members.{Nodes};
+ghost use Rattle.tree_model.specs.promise.TreeData.{Released};
+ghost use Rattle.raw_array.specs.promise.Members.{Cost};
+ghost use Rattle.tree_model.specs.promise.TreeCost.{Nodes};
 ghost use Rattle.unit_pass.specs.declared.pass.TheConstants.{ROOM, SUPPLY};
 ghost use Rattle.stream_face.specs.Calls.{Answers, Counts, IsCode, IsRowFault, IsTold, Repeats, SchemaAnswer, ShowsInOrder, Tells};
 ghost use Rattle.stream_face.specs.Codes.{enomem};

@@ -1,9 +1,9 @@
 //! The trait of taps, which are shown the chunks of a run.
 ghost use Rattle.std.specs.Prelude.{◌≡◌, List, Option, [], ◌∷◌, IsOk, OnErr, OnOk};
-ghost use Rattle.schema_check.specs.Schemas.{TypedOf};
-ghost use Rattle.data_types.specs.TypedView.{typed_of};
-ghost use Rattle.layout_rules.specs.Walk.{ChunkOk};
-ghost use Rattle.stream_face.specs.Shown.{Seen, grown, seen_of};
+ghost use Rattle.schema_check.specs.promise.Schemas.{TypedOf};
+ghost use Rattle.data_types.specs.promise.TypedView.{typed_of};
+ghost use Rattle.layout_rules.specs.promise.Walk.{ChunkOk};
+ghost use Rattle.stream_face.specs.promise.Shown.{Seen, grown, seen_of};
 
 use data_types::Typed;
 use raw_array::RawArray;

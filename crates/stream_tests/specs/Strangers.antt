@@ -1,9 +1,11 @@
 -- A stream for tests, which gives structures that it keeps, whatever they are, and then ends or refuses.
 use Rattle.std.specs.Prelude.{◌+◌, ℕ, ℤ, Bool, true, false, List, [], Option, None, Some, is_some, codes}
 use Rattle.data_types.specs.declared.row_fault.RowFault.{RowFault}
-use Rattle.tree_model.specs.Tree.{trees}
-use Rattle.raw_array.specs.Members.{ArrayTree, cost_of_all}
-use Rattle.raw_schema.specs.Members.{SchemaTree, Nodes}
+use Rattle.tree_model.specs.promise.TreeData.{trees}
+use Rattle.raw_array.specs.promise.Members.{ArrayTree}
+use Rattle.raw_array.specs.Members.{cost_of_all}
+use Rattle.raw_schema.specs.promise.Members.{SchemaTree}
+use Rattle.tree_model.specs.promise.TreeCost.{Nodes}
 use Rattle.stream_face.specs.Streams.{Stream}
 use Rattle.stream_face.specs.Texts.{Refusal}
 

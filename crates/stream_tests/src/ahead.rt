@@ -1,7 +1,7 @@
 //! Tests of a text that is read ahead: its pieces, its chunks and how they end, however many are made ahead.
 ghost use Rattle.std.specs.Prelude.{◌≡◌, ◌≤◌, ◌^◌, IsTrue, length, map, vec_len};
 ghost use Rattle.csv_source.specs.AheadSources.{ahead_state};
-ghost use Rattle.csv_model.specs.Header.{most_columns};
+ghost use Rattle.csv_model.specs.promise.Header.{most_columns};
 ghost use Rattle.data_types.specs.ColumnView.{column_of};
 ghost use Rattle.field_codec.specs.TextColumns.{AreAllowed, AreProper, NamesDiffer};
 

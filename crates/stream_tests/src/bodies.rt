@@ -1,7 +1,7 @@
 //! Records that no command reads so: a body as a whole, and batches of the records behind another text's header.
 ghost use Rattle.std.specs.Prelude.{◌≤◌, List, length, map, IfOk};
 ghost use Rattle.data_types.specs.ColumnView.{column_of};
-ghost use Rattle.data_types.specs.Table.{Column, Row};
+ghost use Rattle.data_types.specs.promise.Table.{Column, Row};
 ghost use Rattle.csv_read.specs.Body.{HoldEach};
 ghost use Rattle.field_codec.specs.TextColumns.{AreAllowed, AreProper};
 

@@ -1,16 +1,18 @@
 //! What the holder of a stage that gives a column a dictionary learns of the chunks that it gets.
 ghost use Rattle.std.specs.Prelude.{◌≡◌, ◌≢◌, ◌<◌, ◌≤◌, All, IsTrue, List, [], ◌∷◌, get_or, length, pos};
 ghost use Rattle.std.specs.Thread.{IsSync};
-ghost use Rattle.data_types.specs.Parts.{column_values};
-ghost use Rattle.data_types.specs.Table.{Dict, Flat, Row};
-ghost use Rattle.data_types.specs.Value.{Null};
+ghost use Rattle.data_types.specs.promise.Parts.{column_values};
+ghost use Rattle.data_types.specs.promise.Table.{Dict, Flat, Row};
+ghost use Rattle.data_types.specs.promise.Value.{Null};
 ghost use Rattle.data_types.specs.declared.kind.DataType.{DataType};
-ghost use Rattle.tree_model.specs.Tree.{IsLive, Released, child_at, dictionary_at};
-ghost use Rattle.raw_array.specs.Members.{ArrayTree};
-ghost use Rattle.data_types.specs.ColumnKinds.{type_of_kind};
-ghost use Rattle.layout_rules.specs.Values.{values_of};
+ghost use Rattle.tree_model.specs.promise.TreeParts.{IsLive, child_at};
+ghost use Rattle.tree_model.specs.promise.TreeData.{Released};
+ghost use Rattle.tree_model.specs.Tree.{dictionary_at};
+ghost use Rattle.raw_array.specs.promise.Members.{ArrayTree};
+ghost use Rattle.data_types.specs.promise.ColumnKinds.{type_of_kind};
+ghost use Rattle.layout_rules.specs.promise.Values.{values_of};
 ghost use Rattle.unit_pass.specs.declared.pass.TheConstants.{ROOM};
-ghost use Rattle.stage_model.specs.Dictionary.{Dictionary};
+ghost use Rattle.stage_model.specs.promise.Dictionary.{Dictionary};
 ghost use Rattle.stage_model.specs.Typing.{column_at};
 ghost use Rattle.stages.specs.Stages.{stage_gives};
 ghost use Rattle.stream_face.specs.Streams.{IsFresh};

@@ -1,9 +1,10 @@
 //! A stream for tests. It gives the structures that it was handed, whatever they are, and then ends or refuses.
 ghost use Rattle.std.specs.Prelude.{◌≡◌, ◌≢◌, ◌+◌, ◌≤◌, ◌≤ℤ◌, ◌↔◌, IsTrue, Some, is_some, true, false, pos, IfOk};
 ghost use Rattle.data_types.specs.declared.row_fault.RowFault.{RowFault as RowFaultValue};
-ghost use Rattle.tree_model.specs.Tree.{Released, trees};
-ghost use Rattle.raw_array.specs.Members.{Cost, cost_of_all};
-ghost use Rattle.raw_schema.specs.Members.{Nodes};
+ghost use Rattle.tree_model.specs.promise.TreeData.{Released, trees};
+ghost use Rattle.raw_array.specs.promise.Members.{Cost};
+ghost use Rattle.raw_array.specs.Members.{cost_of_all};
+ghost use Rattle.tree_model.specs.promise.TreeCost.{Nodes};
 ghost use Rattle.unit_pass.specs.declared.pass.TheConstants.{ROOM, SUPPLY};
 ghost use Rattle.stream_face.specs.Codes.{einval};
 ghost use Rattle.stream_tests.specs.Strangers.{held_in, holding};
@@ -38,9 +39,10 @@ pub(crate) struct Holdings {
 impl Model for Holdings {
     ghost use Rattle.std.specs.Prelude.{◌≡◌, ◌≤◌, ◌+◌};
     ghost use Rattle.std.specs.Coded.{codes};
-    ghost use Rattle.tree_model.specs.Tree.{trees};
+    ghost use Rattle.tree_model.specs.promise.TreeData.{trees};
     ghost use Rattle.raw_array.specs.Members.{coded_array, cost_of_all};
-    ghost use Rattle.raw_schema.specs.Members.{coded_schema, Nodes};
+    ghost use Rattle.tree_model.specs.promise.TreeCost.{Nodes};
+    ghost use Rattle.raw_schema.specs.Members.{coded_schema};
     ghost use Rattle.stream_tests.specs.Strangers.{Holdings as HoldingsValue};
 
     ghost Value = { HoldingsValue };

@@ -2,14 +2,15 @@
 //! dictionary.
 ghost use Rattle.std.specs.Prelude.{◌≡◌, ◌≤◌, All, map};
 ghost use Rattle.data_types.specs.ColumnView.{column_of};
-ghost use Rattle.raw_schema.specs.Members.{Nodes};
+ghost use Rattle.tree_model.specs.promise.TreeCost.{Nodes};
 ghost use Rattle.tree_model.specs.Tree.{Depth};
 ghost use Rattle.unit_pass.specs.declared.pass.TheConstants.{CHUNK};
 ghost use Rattle.data_types.specs.KindTrees.{TypedOk};
-ghost use Rattle.data_types.specs.TypedView.{typed_of};
+ghost use Rattle.data_types.specs.promise.TypedView.{typed_of};
 ghost use Rattle.data_types.specs.ColumnForms.{AreColumnKinds};
-ghost use Rattle.data_types.specs.ColumnKinds.{type_of_columns};
-ghost use Rattle.schema_check.specs.ColumnSchema.{KindsOk, SchemaOf};
+ghost use Rattle.data_types.specs.promise.ColumnKinds.{type_of_columns};
+ghost use Rattle.schema_check.specs.promise.ColumnSchema.{SchemaOf};
+ghost use Rattle.schema_check.specs.ColumnSchema.{KindsOk};
 ghost use Rattle.field_codec.specs.TextColumns.{HaveTexts};
 
 use crate::sources::{closed, same};

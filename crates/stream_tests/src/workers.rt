@@ -1,7 +1,7 @@
 //! A small chunk read by workers, side by side and in turn.
 ghost use Rattle.std.specs.Prelude.{◌≡◌};
 ghost use Rattle.data_types.specs.KindTrees.{TypedOk};
-ghost use Rattle.data_types.specs.TypedView.{typed_of};
+ghost use Rattle.data_types.specs.promise.TypedView.{typed_of};
 
 use crate::streams::array_of;
 use data_types::{DataType, Typed};

@@ -2,7 +2,9 @@
 ghost use Rattle.std.specs.Prelude.{◌≡◌, ◌+◌, ◌≤◌, IsTrue, length, if◌then◌else◌, is_ok, IfOk, IfErr};
 ghost use Rattle.buf_block.specs.declared.hold.TheConstants.{AMOUNT};
 ghost use Rattle.raw_array.specs.Parts.{tree_of_parts};
-ghost use Rattle.tree_model.specs.Tree.{IsLive, trees, maybe_tree, depth_of_all, depth_of_maybe};
+ghost use Rattle.tree_model.specs.promise.TreeParts.{IsLive};
+ghost use Rattle.tree_model.specs.promise.TreeData.{trees, maybe_tree};
+ghost use Rattle.tree_model.specs.Tree.{depth_of_all, depth_of_maybe};
 
 use buf_block::{BufView, make};
 use raw_array::{ArrayParts, RawArray, ReleaseKind};

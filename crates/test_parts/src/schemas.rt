@@ -1,6 +1,8 @@
 //! Small schemas that are made by hand: of at most eight children, and ten levels.
 ghost use Rattle.std.specs.Prelude.{◌≡◌, ◌≤◌, IsTrue, IfOk};
-ghost use Rattle.tree_model.specs.Tree.{IsLive, trees, maybe_tree, depth_of_all, depth_of_maybe};
+ghost use Rattle.tree_model.specs.promise.TreeParts.{IsLive};
+ghost use Rattle.tree_model.specs.promise.TreeData.{trees, maybe_tree};
+ghost use Rattle.tree_model.specs.Tree.{depth_of_all, depth_of_maybe};
 
 use raw_schema::{RawSchema, SchemaParts};
 use std::alloc::{AllocError, Global};

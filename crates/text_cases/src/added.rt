@@ -1,8 +1,8 @@
 //! Columns of many items, each added by the call for its form, or every eighth by that for any; or many times by one call.
 ghost use Rattle.std.specs.Prelude.{◌≡◌, ◌≤◌, ◌<◌, [], List, length, OnOk};
-ghost use Rattle.data_types.specs.FieldText.{form_of};
+ghost use Rattle.data_types.specs.promise.FieldText.{form_of};
 ghost use Rattle.data_types.specs.Kinds.{KindOk};
-ghost use Rattle.data_types.specs.Value.{Value, Bits, Whole};
+ghost use Rattle.data_types.specs.promise.Value.{Value, Bits, Whole};
 ghost use Rattle.col_build.specs.Encoding.{HasForm, most_values};
 ghost use Rattle.col_build.specs.Holding.{Adds, Holds, Takes};
 ghost use Rattle.col_build.specs.Items.{value_of};

@@ -1,12 +1,13 @@
 //! Columns that are filled item by item: their buffers, and the items that they don't take.
 ghost use Rattle.std.specs.Prelude.{◌≡◌, ◌+◌, List, [], IsTrue};
 ghost use Rattle.unit_pass.specs.declared.pass.TheConstants.{SUPPLY};
-ghost use Rattle.data_types.specs.FieldText.{form_of};
+ghost use Rattle.data_types.specs.promise.FieldText.{form_of};
 ghost use Rattle.data_types.specs.Kinds.{KindOk};
-ghost use Rattle.data_types.specs.Value.{Value};
+ghost use Rattle.data_types.specs.promise.Value.{Value};
 ghost use Rattle.data_types.specs.declared.kind.DataType.{DataType};
 ghost use Rattle.col_build.specs.Encoding.{HasForm};
-ghost use Rattle.col_build.specs.Finished.{IsEncoded, blocks_of};
+ghost use Rattle.col_build.specs.promise.Finished.{blocks_of};
+ghost use Rattle.col_build.specs.Finished.{IsEncoded};
 ghost use Rattle.col_build.specs.Holding.{Holds, HoldsFew, HoldsSome};
 
 use crate::formats::hex_of;

@@ -1,6 +1,6 @@
 //! Columns whose items are each added many times by one call.
 ghost use Rattle.std.specs.Prelude.{◌≡◌, ◌≤◌, ◌<◌, ◌+◌, ◌++◌, ℕ, [], List, length, replicate, None, OnOk};
-ghost use Rattle.data_types.specs.Value.{Value};
+ghost use Rattle.data_types.specs.promise.Value.{Value};
 ghost use Rattle.data_types.specs.declared.kind.DataType.{DataType as AType};
 ghost use Rattle.col_build.specs.Encoding.{most_values, push_fault};
 ghost use Rattle.col_build.specs.Holding.{Adds, Holds, HoldsFew, HoldsSome};

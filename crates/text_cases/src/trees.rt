@@ -1,7 +1,7 @@
 //! Trees of the C Data Interface as lines of text: their reports, their items, and the faults of those that aren't lawful.
 ghost use Rattle.std.specs.Prelude.{◌≡◌, ◌+◌};
-ghost use Rattle.raw_array.specs.Members.{Cost};
-ghost use Rattle.raw_schema.specs.Members.{Nodes};
+ghost use Rattle.raw_array.specs.promise.Members.{Cost};
+ghost use Rattle.tree_model.specs.promise.TreeCost.{Nodes};
 ghost use Rattle.unit_pass.specs.declared.pass.TheConstants.{SUPPLY};
 
 use crate::items::tell_column;

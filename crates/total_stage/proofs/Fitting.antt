@@ -12,23 +12,24 @@ use Rattle.csv_read.specs.Chunks.{FitFrom, FitsKind, blocks_from, chunk_blocks, 
 use Rattle.data_types.specs.ColumnForms.{AreColumnKinds, IsColumnKind}
 use Rattle.data_types.specs.ColumnView.{column_of}
 use Rattle.data_types.specs.FieldText.{IsValueOf}
-use Rattle.data_types.specs.Parts.{AreWithin, column_values, joined_rows, picked}
-use Rattle.data_types.specs.Table.{Column, Kind, Flat, Dict, Columns, Row}
+use Rattle.data_types.specs.promise.Parts.{column_values, joined_rows, picked}
+use Rattle.data_types.specs.Parts.{AreWithin}
+use Rattle.data_types.specs.promise.Table.{Column, Kind, Flat, Dict, Columns, Row}
 use Rattle.data_types.specs.declared.kind.DataType.{DataType}
-use Rattle.data_types.specs.Value.{Value, Null, byte_total, bytes_of}
+use Rattle.data_types.specs.promise.Value.{Value, Null, byte_total, bytes_of}
 use Rattle.data_types.specs.declared.kind.ColumnType.{ColumnType}
 use Rattle.data_types.specs.declared.row_fault.RowFault.{RowFault}
-use Rattle.data_types.specs.ColumnKinds.{type_of_columns}
-use Rattle.schema_check.specs.ColumnSchema.{SchemaOf}
-use Rattle.schema_check.specs.Schemas.{TypedOf}
-use Rattle.raw_schema.specs.Members.{Nodes}
+use Rattle.data_types.specs.promise.ColumnKinds.{type_of_columns}
+use Rattle.schema_check.specs.promise.ColumnSchema.{SchemaOf}
+use Rattle.schema_check.specs.promise.Schemas.{TypedOf}
+use Rattle.tree_model.specs.promise.TreeCost.{Nodes}
 use Rattle.tree_model.specs.Tree.{Depth}
 use Rattle.unit_pass.specs.declared.pass.TheConstants.{CHUNK}
 use Rattle.column_fill.proofs.ColumnBlocks.{blocks-are}
 use Rattle.column_fill.proofs.ValuesTaken.{values-fit}
-use Rattle.stage_model.specs.Stages.{at_end, numbers_at, totals_row}
-use Rattle.stage_model.specs.Traffic.{Made, blocks_from as made_from, kind_blocks, kind_nodes, table_blocks, table_nodes}
-use Rattle.stage_model.specs.Typing.{is_summed, no_column, totals_columns}
+use Rattle.stage_model.specs.promise.Stages.{at_end, numbers_at, totals_row}
+use Rattle.stage_model.specs.promise.Traffic.{Made, blocks_from as made_from, kind_blocks, kind_nodes, table_blocks, table_nodes}
+use Rattle.stage_model.specs.promise.Typing.{is_summed, no_column, totals_columns}
 use Rattle.stream_face.specs.Lawful.{AreItems, AreValues, DictsHaveBytes, IsTable, LawfulColumns, LawfulTables, column_leaves, leaves, total_rows}
 use Rattle.stages.proofs.ColumnSets.{same_columns}
 use Rattle.total_stage.specs.Rows.{RowFits, ValueFits}

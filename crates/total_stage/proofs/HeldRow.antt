@@ -8,12 +8,12 @@ use Rattle.col_build.specs.Holding.{Holds}
 use Rattle.col_build.specs.declared.builder.Builder.{Builder}
 use Rattle.csv_read.specs.Body.{HoldsKind}
 use Rattle.data_types.specs.ColumnView.{column_of}
-use Rattle.data_types.specs.Table.{Column, Kind, Flat, Row}
-use Rattle.data_types.specs.Value.{Value, Null}
+use Rattle.data_types.specs.promise.Table.{Column, Kind, Flat, Row}
+use Rattle.data_types.specs.promise.Value.{Value, Null}
 use Rattle.data_types.specs.declared.kind.ColumnType.{ColumnType}
 use Rattle.data_types.specs.declared.kind.DataType.{DataType}
 use Rattle.column_fill.proofs.ValuesTaken.{value-taken}
-use Rattle.stage_model.specs.Stages.{totals_row}
+use Rattle.stage_model.specs.promise.Stages.{totals_row}
 use Rattle.total_stage.specs.Rows.{RowFits, Takes, ValueFits}
 use Rattle.total_stage.specs.Sums.{AreSums}
 use Rattle.total_stage.specs.Totals.{number_value}

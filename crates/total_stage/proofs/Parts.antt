@@ -4,16 +4,16 @@ use Rattle.std.specs.Prelude.{Vec}
 use Rattle.std.specs.Global.{Global}
 use Rattle.std.specs.List.{filter_map}
 use Rattle.std.proofs.lemmas.List.{length-append, length-take}
-use Rattle.data_types.specs.Table.{Row}
-use Rattle.data_types.specs.Value.{Null}
-use Rattle.raw_array.specs.Members.{ArrayTree}
-use Rattle.data_types.specs.KindTrees.{KindTree}
-use Rattle.layout_rules.specs.Values.{each, row_items, rows_of, tree_items}
+use Rattle.data_types.specs.promise.Table.{Row}
+use Rattle.data_types.specs.promise.Value.{Null}
+use Rattle.raw_array.specs.promise.Members.{ArrayTree}
+use Rattle.data_types.specs.promise.KindTrees.{KindTree}
+use Rattle.layout_rules.specs.promise.Values.{each, row_items, rows_of, tree_items}
 use Rattle.array_laws.specs.Pieces.{border, joined_pieces}
 use Rattle.array_laws.proofs.WindowItems.{part-each}
 use Rattle.arr_import.specs.Window.{Window, item_at}
 use Rattle.column_fill.proofs.Counts.{count-is}
-use Rattle.stage_model.specs.Stages.{number_if, numbers_at}
+use Rattle.stage_model.specs.promise.Stages.{number_if, numbers_at}
 use Rattle.total_stage.specs.Sums.{AreParts, AreSums, CanSum, rows_between}
 use Rattle.total_stage.specs.Totals.{IsSmallItem, numbers_in}
 use Rattle.total_stage.specs.declared.numbers.Totals.{Totals}

@@ -5,16 +5,17 @@ use Rattle.std.specs.List.{AllByRecursion}
 use Rattle.std.proofs.lemmas.Grind.{flat_map-append}
 use Rattle.std.proofs.lemmas.List.{append-nil, append_assoc, get_or-map, length-map}
 use Rattle.data_types.specs.FieldText.{IsValueOf}
-use Rattle.data_types.specs.Parts.{column_values, joined_rows}
-use Rattle.data_types.specs.Table.{Column, Flat, Row}
-use Rattle.data_types.specs.Value.{Null}
-use Rattle.raw_array.specs.Members.{ArrayTree, Cost}
-use Rattle.data_types.specs.ColumnKinds.{type_of_columns}
-use Rattle.data_types.specs.KindTrees.{KindTree, TypedOk}
-use Rattle.layout_rules.specs.Values.{rows_of}
-use Rattle.layout_rules.specs.Walk.{ChunkOk}
+use Rattle.data_types.specs.promise.Parts.{column_values, joined_rows}
+use Rattle.data_types.specs.promise.Table.{Column, Flat, Row}
+use Rattle.data_types.specs.promise.Value.{Null}
+use Rattle.raw_array.specs.promise.Members.{ArrayTree, Cost}
+use Rattle.data_types.specs.promise.ColumnKinds.{type_of_columns}
+use Rattle.data_types.specs.promise.KindTrees.{KindTree}
+use Rattle.data_types.specs.KindTrees.{TypedOk}
+use Rattle.layout_rules.specs.promise.Values.{rows_of}
+use Rattle.layout_rules.specs.promise.Walk.{ChunkOk}
 use Rattle.column_fill.proofs.Counts.{kids-long}
-use Rattle.stage_model.specs.Typing.{is_summed, no_column}
+use Rattle.stage_model.specs.promise.Typing.{is_summed, no_column}
 use Rattle.unit_pass.specs.declared.pass.TheConstants.{CHUNK}
 use Rattle.data_types.specs.Kinds.{KindOk}
 use Rattle.data_types.specs.declared.kind.DataType.{DataType}

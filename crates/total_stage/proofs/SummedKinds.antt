@@ -9,14 +9,15 @@ use Rattle.std.proofs.Math.Nat.{pow-le-pow_right}
 use Rattle.std.proofs.lemmas.Bool.{false≢true, leb-true, lt-ltb, ltb-true}
 use Rattle.std.proofs.lemmas.Int.{ints}
 use Rattle.data_types.specs.ColumnForms.{IsColumnKind}
-use Rattle.data_types.specs.FieldText.{IsValueOf, in_range}
+use Rattle.data_types.specs.promise.FieldText.{in_range}
+use Rattle.data_types.specs.FieldText.{IsValueOf}
 use Rattle.data_types.specs.Kinds.{KindOk}
-use Rattle.data_types.specs.Table.{Column, Kind, Flat}
-use Rattle.data_types.specs.Value.{Value, Null, Truth, Whole, Bits, Bytes, Items, Fields, bytes_of}
+use Rattle.data_types.specs.promise.Table.{Column, Kind, Flat}
+use Rattle.data_types.specs.promise.Value.{Value, Null, Truth, Whole, Bits, Bytes, Items, Fields, bytes_of}
 use Rattle.data_types.specs.declared.kind.DataType.{DataType}
 use Rattle.data_types.specs.declared.kind.DataType.TheVariants as kinds
-use Rattle.stage_model.specs.Stages.{extreme, greater, lesser, number_if, sum_of}
-use Rattle.stage_model.specs.Typing.{column, is_summed, scale_of}
+use Rattle.stage_model.specs.promise.Stages.{extreme, greater, lesser, number_if, sum_of}
+use Rattle.stage_model.specs.promise.Typing.{column, is_summed, scale_of}
 use Rattle.total_stage.specs.Rows.{ValueFits}
 use Rattle.total_stage.specs.Totals.{IsSmall, IsSmallItem}
 use Rattle.total_stage.proofs.Adding.{sum-digits, sum-within}

@@ -4,10 +4,10 @@ use Rattle.std.specs.Prelude.{Option, None, Some}
 use Rattle.std.specs.List.{filter_map}
 use Rattle.std.proofs.lemmas.List.{append-nil}
 use Rattle.std.proofs.lemmas.List.Elements.{filter_map-append}
-use Rattle.data_types.specs.Value.{Value, Null, Truth, Whole, Bits, Bytes, Items, Fields}
-use Rattle.layout_rules.specs.Values.{each}
+use Rattle.data_types.specs.promise.Value.{Value, Null, Truth, Whole, Bits, Bytes, Items, Fields}
+use Rattle.layout_rules.specs.promise.Values.{each}
 use Rattle.arr_import.specs.Window.{Window, item_at}
-use Rattle.stage_model.specs.Stages.{number_if}
+use Rattle.stage_model.specs.promise.Stages.{number_if}
 use Rattle.total_stage.specs.Totals.{numbers_in}
 
 pub each-push : {X : Type 0} (f : ℕ → X) (from n : ℕ) → each f from (suc n) ≡ each f from n ++ f (from + n) ∷ []

@@ -2,10 +2,11 @@
 use Rattle.std.specs.Prelude.{◌≡◌, ℕ, ◌*◌, ◌≤◌, true, List, length, map}
 use Rattle.std.specs.List.{flat_map, list_all}
 use Rattle.data_types.specs.ColumnView.{column_of}
-use Rattle.data_types.specs.Parts.{AreWithin, picked}
-use Rattle.data_types.specs.Table.{Column}
+use Rattle.data_types.specs.promise.Parts.{picked}
+use Rattle.data_types.specs.Parts.{AreWithin}
+use Rattle.data_types.specs.promise.Table.{Column}
 use Rattle.data_types.specs.declared.kind.ColumnType.{ColumnType}
-use Rattle.stage_model.specs.Typing.{is_summed, no_column, totals_columns}
+use Rattle.stage_model.specs.promise.Typing.{is_summed, no_column, totals_columns}
 
 -- numbers of these columns, each of which is of whole numbers or of decimals
 pub record CanTotal (picks : List ℕ) (before : List Column) : Type 0 where

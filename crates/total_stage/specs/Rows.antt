@@ -5,8 +5,8 @@ use Rattle.col_build.specs.Holding.{Holds}
 use Rattle.col_build.specs.declared.builder.Builder.{Builder}
 use Rattle.data_types.specs.ColumnForms.{IsColumnKind}
 use Rattle.data_types.specs.FieldText.{IsValueOf}
-use Rattle.data_types.specs.Table.{Column, Kind, Flat, Row}
-use Rattle.data_types.specs.Value.{Value, Null, bytes_of}
+use Rattle.data_types.specs.promise.Table.{Column, Kind, Flat, Row}
+use Rattle.data_types.specs.promise.Value.{Value, Null, bytes_of}
 use Rattle.data_types.specs.declared.kind.DataType.{DataType}
 
 -- a kind of plain values

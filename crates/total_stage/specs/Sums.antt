@@ -1,17 +1,18 @@
 -- The totals of picked columns, in the making.
 use Rattle.std.specs.Prelude.{◌≡◌, ◌⊎◌, ℕ, ◌-◌, ◌<◌, ◌≤◌, ◌^◌, List, [], length, get_or, take, drop, Vec}
 use Rattle.std.specs.Global.{Global}
-use Rattle.data_types.specs.Table.{Row}
-use Rattle.data_types.specs.Value.{Null}
-use Rattle.tree_model.specs.Tree.{children_of}
-use Rattle.raw_array.specs.Members.{ArrayTree}
-use Rattle.data_types.specs.KindTrees.{KindTree, TypedOk}
-use Rattle.layout_rules.specs.Layout.{natural}
-use Rattle.layout_rules.specs.Values.{rows_of}
-use Rattle.layout_rules.specs.Walk.{ChunkOk}
+use Rattle.data_types.specs.promise.Table.{Row}
+use Rattle.data_types.specs.promise.Value.{Null}
+use Rattle.tree_model.specs.promise.TreeParts.{children_of}
+use Rattle.raw_array.specs.promise.Members.{ArrayTree}
+use Rattle.data_types.specs.promise.KindTrees.{KindTree}
+use Rattle.data_types.specs.KindTrees.{TypedOk}
+use Rattle.layout_rules.specs.promise.Layout.{natural}
+use Rattle.layout_rules.specs.promise.Values.{rows_of}
+use Rattle.layout_rules.specs.promise.Walk.{ChunkOk}
 use Rattle.arr_import.specs.Window.{IsStruct}
 use Rattle.fan_out.specs.Pieces.{GivesPieces}
-use Rattle.stage_model.specs.Stages.{numbers_at}
+use Rattle.stage_model.specs.promise.Stages.{numbers_at}
 use Rattle.total_stage.specs.Totals.{AreTotals, IsSmallItem}
 use Rattle.total_stage.specs.declared.numbers.Totals.{Totals}
 

@@ -1,12 +1,12 @@
 -- The totals of numbers, in the making.
 use Rattle.std.specs.Prelude.{◌≡◌, ℕ, ◌+◌, ◌-◌, ◌<◌, ◌≤◌, ◌^◌, ℤ, pos, negsuc, ◌+ℤ◌, ◌≤ℤ◌, List, length, Option, None, Some}
 use Rattle.std.specs.List.{AllByRecursion, filter_map, fold}
-use Rattle.data_types.specs.Value.{Value, Null, Whole}
-use Rattle.layout_rules.specs.Values.{each}
+use Rattle.data_types.specs.promise.Value.{Value, Null, Whole}
+use Rattle.layout_rules.specs.promise.Values.{each}
 use Rattle.arr_import.specs.Plain.{ShowsItems}
 use Rattle.arr_import.specs.Window.{Window, item_at}
 use Rattle.arr_import.specs.declared.plain.Plain.{Plain}
-use Rattle.stage_model.specs.Stages.{greater, lesser, number_if, sum_of}
+use Rattle.stage_model.specs.promise.Stages.{greater, lesser, number_if, sum_of}
 use Rattle.total_stage.specs.declared.numbers.Totals.{Totals}
 
 -- no number of a column that is totalled is larger in size

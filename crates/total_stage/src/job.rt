@@ -1,8 +1,8 @@
 //! The totals of the rows of a window, as the job of workers.
 ghost use Rattle.std.specs.Prelude.{◌≤◌, length, IfOk};
-ghost use Rattle.layout_rules.specs.Layout.{natural};
-ghost use Rattle.data_types.specs.TypedView.{typed_of};
-ghost use Rattle.layout_rules.specs.Values.{rows_of};
+ghost use Rattle.layout_rules.specs.promise.Layout.{natural};
+ghost use Rattle.data_types.specs.promise.TypedView.{typed_of};
+ghost use Rattle.layout_rules.specs.promise.Values.{rows_of};
 ghost use Rattle.total_stage.specs.Sums.{AreSums, CanAdd, CanSum, rows_between};
 
 use crate::numbers::Totals;

@@ -1,11 +1,11 @@
 //! The row of totals, and builders that hold it.
 ghost use Rattle.std.specs.Prelude.{◌≡◌, ◌≤◌, ◌++◌, ◌∷◌, [], ℤ, ℕ, List, length, map, IfOk, OnOk};
 ghost use Rattle.data_types.specs.ColumnView.{column_of};
-ghost use Rattle.data_types.specs.Table.{Flat, Row};
+ghost use Rattle.data_types.specs.promise.Table.{Flat, Row};
 ghost use Rattle.col_build.specs.Holding.{Adds};
 ghost use Rattle.col_build.specs.Items.{value_of};
 ghost use Rattle.csv_read.specs.Body.{HoldRows, HoldsKind};
-ghost use Rattle.stage_model.specs.Stages.{totals_row, totals_values};
+ghost use Rattle.stage_model.specs.promise.Stages.{totals_row, totals_values};
 ghost use Rattle.total_stage.specs.Rows.{IsFlat, RowFits, Takes, ValueFits};
 ghost use Rattle.total_stage.specs.Sums.{AreSums};
 ghost use Rattle.total_stage.specs.Totals.{AreTotals, number_value};

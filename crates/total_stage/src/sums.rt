@@ -1,9 +1,9 @@
 //! The totals of columns, and what a chunk adds to them.
 ghost use Rattle.std.specs.Prelude.{◌≡◌, ◌≤◌, ◌+◌, ◌*◌, ◌^◌, ◌++◌, [], ℕ, List, length, IfOk, OnOk};
-ghost use Rattle.data_types.specs.Table.{Row};
-ghost use Rattle.raw_array.specs.Members.{Cost};
-ghost use Rattle.data_types.specs.TypedView.{typed_of};
-ghost use Rattle.layout_rules.specs.Values.{rows_of};
+ghost use Rattle.data_types.specs.promise.Table.{Row};
+ghost use Rattle.raw_array.specs.promise.Members.{Cost};
+ghost use Rattle.data_types.specs.promise.TypedView.{typed_of};
+ghost use Rattle.layout_rules.specs.promise.Values.{rows_of};
 ghost use Rattle.total_stage.specs.Sums.{AreParts, AreSums, CanAdd, HaveBegun};
 
 use crate::job::SumJob;

@@ -1,7 +1,7 @@
 //! The step that totals columns.
 ghost use Rattle.std.specs.Prelude.{◌≡◌, ◌≤◌, [], Some, map, false};
 ghost use Rattle.data_types.specs.ColumnView.{column_of};
-ghost use Rattle.stage_model.specs.Traffic.{made_blocks, made_nodes};
+ghost use Rattle.stage_model.specs.promise.Traffic.{made_blocks, made_nodes};
 ghost use Rattle.stage_model.specs.declared.stage.Step.TheVariants as steps;
 ghost use Rattle.stages.specs.Steps.{rows_only};
 ghost use Rattle.total_stage.specs.Fits.{TotalsFits};

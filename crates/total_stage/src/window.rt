@@ -1,6 +1,6 @@
 //! The totals of some items of a column.
 ghost use Rattle.std.specs.Prelude.{◌≡◌, ◌≢◌, ◌-◌, ◌<◌, ◌≤◌, ◌^◌, ℕ, ℤ, IfNone, IfSome, if◌then◌else◌};
-ghost use Rattle.data_types.specs.Value.{Null, Whole};
+ghost use Rattle.data_types.specs.promise.Value.{Null, Whole};
 ghost use Rattle.data_types.specs.declared.storage.Storage.TheVariants as storages;
 ghost use Rattle.arr_import.specs.Cols.{window_of};
 ghost use Rattle.arr_import.specs.Plain.{IsItemThere, is_valid_in, storage_in, valid_item};

@@ -1,21 +1,22 @@
 -- What the check of a text comes to, from what its parts come to.
 use Rattle.std.proofs.Common.{◌≡◌, ◌≢◌, ◌∙◌, ℕ, List, None, Some, Ok, Err, ap, sym, refl, subst}
-use Rattle.raw_schema.specs.Members.{SchemaTree}
-use Rattle.raw_array.specs.Members.{ArrayTree}
-use Rattle.data_types.specs.Ways.{steps_of}
+use Rattle.raw_schema.specs.promise.Members.{SchemaTree}
+use Rattle.raw_array.specs.promise.Members.{ArrayTree}
+use Rattle.data_types.specs.promise.Ways.{steps_of}
 use Rattle.layout_rules.specs.Found.{fault_of}
-use Rattle.data_types.specs.KindTrees.{KindTree}
+use Rattle.data_types.specs.promise.KindTrees.{KindTree}
 use Rattle.schema_check.specs.SchemaAnswers.{IsFirstFault}
-use Rattle.schema_check.specs.Schemas.{TypedOf}
-use Rattle.layout_rules.specs.Walk.{first_fault}
+use Rattle.schema_check.specs.promise.Schemas.{TypedOf}
+use Rattle.layout_rules.specs.promise.Walk.{first_fault}
 use Rattle.layout_rules.specs.declared.rule.LayoutFault.{LayoutFault}
 use Rattle.schema_check.specs.declared.schema.SchemaFault.{SchemaFault}
 use Rattle.schema_check.specs.declared.schema.SchemaFault.TheVariants as schemas
-use Rattle.tree_text.specs.Answers.{Reads}
-use Rattle.tree_text.specs.Report.{ReportOf}
+use Rattle.tree_text.specs.promise.Answers.{Reads}
+use Rattle.tree_text.specs.promise.Report.{ReportOf}
 use Rattle.tree_text.specs.declared.fault.TextFault.{TextFault}
 use Rattle.tree_text.specs.declared.fault.TextFault.TheVariants as texts
-use Rattle.tree_check.specs.Checks.{Checked, ChecksTo, IsToldOf, TreesCome, array_if, array_refused, schema_refused, text_refused}
+use Rattle.tree_check.specs.promise.Checks.{Checked, ChecksTo, TreesCome, array_if}
+use Rattle.tree_check.specs.Checks.{IsToldOf, array_refused, schema_refused, text_refused}
 use Rattle.tree_check.specs.declared.fault.CheckFault.{CheckFault}
 use Rattle.tree_check.specs.declared.fault.CheckFault.TheVariants as check
 

@@ -3,13 +3,13 @@ use Rattle.std.proofs.Common.{◌≡◌, ◌∙◌, ℕ, List, Result, Ok, Err, 
 use Rattle.fmt_string.specs.Answer.{Reads as FormatReads}
 use Rattle.fmt_string.specs.declared.fault.FormatFault.{FormatFault}
 use Rattle.data_types.specs.declared.kind.DataType.{DataType}
-use Rattle.raw_schema.specs.Members.{SchemaTree}
-use Rattle.raw_array.specs.Members.{ArrayTree}
-use Rattle.data_types.specs.KindTrees.{KindTree}
-use Rattle.schema_check.specs.SchemaAnswers.{FirstFault, SchemaReads}
-use Rattle.tree_text.specs.Answers.{Reads}
+use Rattle.raw_schema.specs.promise.Members.{SchemaTree}
+use Rattle.raw_array.specs.promise.Members.{ArrayTree}
+use Rattle.data_types.specs.promise.KindTrees.{KindTree}
+use Rattle.schema_check.specs.promise.SchemaAnswers.{FirstFault, SchemaReads}
+use Rattle.tree_text.specs.promise.Answers.{Reads}
 use Rattle.tree_text.specs.declared.fault.TextFault.{TextFault}
-use Rattle.tree_check.specs.Checks.{Checked, ChecksTo, ReadComes, TreesCome, kinds_checked}
+use Rattle.tree_check.specs.promise.Checks.{Checked, ChecksTo, ReadComes, TreesCome, kinds_checked}
 use Rattle.tree_check.specs.declared.fault.TreeFault.TheVariants as trees
 use Rattle.tree_check.proofs.SomeSchema.{some-schema}
 

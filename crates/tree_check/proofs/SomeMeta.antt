@@ -6,13 +6,15 @@ use Rattle.std.proofs.lemmas.Bool.{cases_lt}
 use Rattle.schema_meta.specs.declared.fault.MetaFault.{MetaFault}
 use Rattle.schema_meta.specs.declared.fault.MetaFault.TheVariants.{Short, Negative, Trailing}
 use Rattle.schema_meta.specs.declared.pair.Pair.{Pair}
-use Rattle.schema_meta.specs.Meta.{Begun, BegunFits, IsCount, IsNumber, IsPlace, MetaFaultIs, PairFits, Place, Reads}
-use Rattle.schema_meta.specs.Meta.{begun_text, number, pair, pair_of, size, text}
-use Rattle.schema_meta.specs.Meta.Place.{AtCount, AtLength, AtText}
+use Rattle.schema_meta.specs.promise.Meta.{Begun, BegunFits, IsCount, IsNumber, IsPlace, MetaFaultIs, PairFits, Place}
+use Rattle.schema_meta.specs.Meta.{Reads}
+use Rattle.schema_meta.specs.promise.Meta.{begun_text, number, pair, size, text}
+use Rattle.schema_meta.specs.Meta.{pair_of}
+use Rattle.schema_meta.specs.promise.Meta.Place.{AtCount, AtLength, AtText}
 use Rattle.schema_meta.proofs.Numbers.{IsBytes, number_at_place}
 use Rattle.schema_meta.proofs.Places.{StandsAt, TextRead, grown, negative_here, short_here, text_read, with_key, with_key_fits, with_key_read}
 use Rattle.schema_meta.proofs.Loop.{ReadSoFar, at_start, begun, begun_fits, begun_split, one_more, trailing_here, whole}
-use Rattle.tree_text.specs.TreeText.{AreBytes}
+use Rattle.tree_text.specs.promise.TreeText.{AreBytes}
 
 bytes-are : (bytes : List ℕ) → AreBytes bytes → IsBytes bytes
 bytes-are [] all i = omega arith

@@ -4,26 +4,27 @@ use Rattle.std.proofs.lemmas.Bool.{cases_Bool, cases_eq, cases_lt, false≢true}
 use Rattle.std.proofs.lemmas.Slice.Eq.{bytes_eq-Decides}
 use Rattle.std.specs.Str.{bytes_eq}
 use Rattle.fmt_string.specs.Answer.{Reads as FormatReads}
-use Rattle.fmt_string.specs.FormatString.{FormatIs}
+use Rattle.fmt_string.specs.promise.FormatString.{FormatIs}
 use Rattle.fmt_string.specs.declared.fault.FormatFault.{FormatFault}
 use Rattle.fmt_string.specs.declared.fault.FormatFault.TheVariants as format
 use Rattle.data_types.specs.declared.kind.DataType.{DataType}
 use Rattle.data_types.specs.declared.kind.DataType.TheVariants as kinds
-use Rattle.schema_meta.specs.Meta.{MetaFaultIs, Reads as MetaReads}
+use Rattle.schema_meta.specs.promise.Meta.{MetaFaultIs}
+use Rattle.schema_meta.specs.Meta.{Reads as MetaReads}
 use Rattle.schema_meta.specs.declared.fault.MetaFault.{MetaFault}
 use Rattle.schema_meta.specs.declared.fault.MetaFault.TheVariants as meta
 use Rattle.schema_meta.specs.declared.pair.Pair.{Pair}
-use Rattle.tree_model.specs.Tree.{Released, Live, Trees, no_trees, more_trees, MaybeTree, absent, present}
-use Rattle.raw_schema.specs.Members.{SchemaMembers, SchemaTree, members_of}
-use Rattle.data_types.specs.KindTrees.{KindTree, tree_count}
-use Rattle.schema_check.specs.SchemaAnswers.{FirstFault, MetaRefused, SchemaReads}
-use Rattle.schema_check.specs.Schemas.{ChildrenFit, DictFault, DictTyped, FailsHere, FaultFrom, IndexFits, IsPairNode, IsPairSchema}
-use Rattle.schema_check.specs.Schemas.{KidFault, KidsTyped, MapFits, MetaFits}
-use Rattle.schema_check.specs.Schemas.{NodeIs, TypedFrom}
-use Rattle.data_types.specs.Ways.{Steps, dictionary_step}
+use Rattle.tree_model.specs.promise.TreeData.{Released, Live, Trees, no_trees, more_trees, MaybeTree, absent, present}
+use Rattle.raw_schema.specs.promise.Members.{SchemaMembers, SchemaTree, members_of}
+use Rattle.data_types.specs.promise.KindTrees.{KindTree, tree_count}
+use Rattle.schema_check.specs.promise.SchemaAnswers.{FirstFault, MetaRefused, SchemaReads}
+use Rattle.schema_check.specs.promise.Schemas.{ChildrenFit, DictFault, DictTyped, FailsHere, FaultFrom, IndexFits, IsPairNode, IsPairSchema}
+use Rattle.schema_check.specs.promise.Schemas.{KidFault, KidsTyped, MapFits, MetaFits}
+use Rattle.schema_check.specs.promise.Schemas.{NodeIs, TypedFrom}
+use Rattle.data_types.specs.promise.Ways.{Steps, dictionary_step}
 use Rattle.schema_check.specs.declared.rule.SchemaRule.{SchemaRule}
 use Rattle.schema_check.specs.declared.rule.SchemaRule.TheVariants as rules
-use Rattle.tree_text.specs.TreeText.{AllFit, AreBytesIf, MaybeFits, SchemaNodeFits, TreeFits}
+use Rattle.tree_text.specs.promise.TreeText.{AllFit, AreBytesIf, MaybeFits, SchemaNodeFits, TreeFits}
 use Rattle.tree_check.proofs.SomeMeta.{some-meta}
 
 -- ---- the rules of one node, met or not

@@ -1,2 +1,3 @@
+pub mod promise
 pub mod Checks
 pub mod FaultTexts

@@ -1,7 +1,8 @@
 //! The check of the two trees of a text.
 ghost use Rattle.std.specs.Prelude.{◌≡◌, ◌≤◌, IfOk, IfErr, OnOk, Ok};
 ghost use Rattle.unit_pass.specs.declared.pass.TheConstants.{ROOM};
-ghost use Rattle.tree_check.specs.Checks.{ChecksTo, CountsTrees, IsToldOf, TreesCome};
+ghost use Rattle.tree_check.specs.promise.Checks.{ChecksTo, CountsTrees, TreesCome};
+ghost use Rattle.tree_check.specs.Checks.{IsToldOf};
 
 use crate::fault::CheckFault;
 use layout_check::check_array;

@@ -88,7 +88,7 @@ impl From<LayoutFault> for CheckFault {
 
 impl fmt::Display for TreeFault {
     ghost use Rattle.std.specs.Prelude.{Some};
-    ghost use Rattle.tree_check.specs.FaultTexts.{tree_fault_text};
+    ghost use Rattle.tree_check.specs.promise.FaultTexts.{tree_fault_text};
 
     ghost output = { λ fault. Some (tree_fault_text fault) };
 

@@ -1,6 +1,6 @@
 //! What holds of the checks of texts. The calls do nothing.
 ghost use Rattle.std.specs.Prelude.{◌≡◌, ℕ, List};
-ghost use Rattle.tree_check.specs.Checks.{Checked, ChecksTo};
+ghost use Rattle.tree_check.specs.promise.Checks.{Checked, ChecksTo};
 
 /// A law: the check of each text comes to a report or a first fault, and to one alone.
 pub fn one_check()

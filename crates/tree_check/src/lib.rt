@@ -8,7 +8,7 @@
 //! - The law [`one_check`] says that each text has exactly one report or one fault, and [`some_schema_answer`] that each
 //!   schema which a text can spell has kinds or a first fault.
 //!
-//! The definitions are in `specs/Checks.antt`. Left to others: the lines of a text and the report (`tree_text`), the rules
+//! The definitions are in `specs/promise/Checks.antt`. Left to others: the lines of a text and the report (`tree_text`), the rules
 //! of schemas and arrays (`schema_check`, `layout_rules`).
 #![tactic(auto)]
 

@@ -1,11 +1,11 @@
 //! A law of the schemas that a text can spell. The call does nothing.
 ghost use Rattle.std.specs.Prelude.{◌⊎◌, ℕ, Result};
-ghost use Rattle.data_types.specs.KindTrees.{KindTree};
-ghost use Rattle.raw_schema.specs.Members.{SchemaTree, members_of};
-ghost use Rattle.schema_check.specs.SchemaAnswers.{FirstFault, MetaRefused, SchemaReads};
-ghost use Rattle.schema_check.specs.Schemas.{MetaFits};
+ghost use Rattle.data_types.specs.promise.KindTrees.{KindTree};
+ghost use Rattle.raw_schema.specs.promise.Members.{SchemaTree, members_of};
+ghost use Rattle.schema_check.specs.promise.SchemaAnswers.{FirstFault, MetaRefused, SchemaReads};
+ghost use Rattle.schema_check.specs.promise.Schemas.{MetaFits};
 ghost use Rattle.schema_meta.specs.declared.fault.MetaFault.{MetaFault as AMetaFault};
-ghost use Rattle.tree_text.specs.TreeText.{SchemaFits};
+ghost use Rattle.tree_text.specs.promise.TreeText.{SchemaFits};
 
 /// A law: a schema whose nodes lines can spell, on any level, has kinds or a first fault when it is checked as a root, and
 /// its metadata is in order or has a first fault.

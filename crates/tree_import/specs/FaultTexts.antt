@@ -1,7 +1,7 @@
 -- The texts of faults.
 use Rattle.std.specs.Prelude.{ℕ, List}
 use Rattle.schema_check.specs.FaultTexts.{schema_fault_text}
-use Rattle.layout_rules.specs.FaultTexts.{layout_fault_text}
+use Rattle.layout_rules.specs.promise.FaultTexts.{layout_fault_text}
 use Rattle.tree_import.specs.declared.imported.ImportFault.{ImportFault}
 use Rattle.tree_import.specs.declared.imported.ImportFault.TheVariants as faults
 

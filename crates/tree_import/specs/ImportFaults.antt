@@ -1,12 +1,12 @@
 -- Why two structures are not taken.
 use Rattle.std.specs.Prelude.{◌≡◌, Some}
-use Rattle.raw_array.specs.Members.{ArrayTree}
-use Rattle.raw_schema.specs.Members.{SchemaTree}
-use Rattle.data_types.specs.KindTrees.{KindTree}
-use Rattle.schema_check.specs.Schemas.{TypedOf}
+use Rattle.raw_array.specs.promise.Members.{ArrayTree}
+use Rattle.raw_schema.specs.promise.Members.{SchemaTree}
+use Rattle.data_types.specs.promise.KindTrees.{KindTree}
+use Rattle.schema_check.specs.promise.Schemas.{TypedOf}
 use Rattle.schema_check.specs.SchemaAnswers.{IsFirstFault}
 use Rattle.layout_rules.specs.Found.{fault_of}
-use Rattle.layout_rules.specs.Walk.{first_fault}
+use Rattle.layout_rules.specs.promise.Walk.{first_fault}
 use Rattle.tree_import.specs.declared.imported.ImportFault.{ImportFault}
 use Rattle.tree_import.specs.declared.imported.ImportFault.TheVariants.{Schema, Layout}
 

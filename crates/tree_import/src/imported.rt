@@ -1,11 +1,12 @@
 //! Two structures that both checks accepted, kept together.
 ghost use Rattle.std.specs.Prelude.{◌≡◌, IfOk, IfErr};
 ghost use Rattle.schema_check.specs.declared.schema.SchemaFault.TheVariants.{NoMemory};
-ghost use Rattle.data_types.specs.KindTrees.{KindTree, TypedOk};
-ghost use Rattle.schema_check.specs.Schemas.{TypedOf};
-ghost use Rattle.data_types.specs.TypedView.{typed_of};
-ghost use Rattle.layout_rules.specs.Values.{values_of};
-ghost use Rattle.layout_rules.specs.Walk.{LayoutOk};
+ghost use Rattle.data_types.specs.promise.KindTrees.{KindTree};
+ghost use Rattle.data_types.specs.KindTrees.{TypedOk};
+ghost use Rattle.schema_check.specs.promise.Schemas.{TypedOf};
+ghost use Rattle.data_types.specs.promise.TypedView.{typed_of};
+ghost use Rattle.layout_rules.specs.promise.Values.{values_of};
+ghost use Rattle.layout_rules.specs.promise.Walk.{LayoutOk};
 ghost use Rattle.tree_import.specs.declared.imported.ImportFault.TheVariants.{Schema};
 ghost use Rattle.tree_import.specs.Imports.{AreChecked};
 ghost use Rattle.tree_import.specs.ImportFaults.{IsImportFault};

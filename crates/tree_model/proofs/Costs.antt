@@ -1,7 +1,8 @@
 -- What the acts on trees do to their cost.
 use Rattle.std.proofs.Common.{◌≡◌, ℕ, ◌+◌, ◌<◌, List, [], ◌∷◌, length, get_or, set, refl, ap, sym, ◌∙◌, arith, suc, zero}
-use Rattle.tree_model.specs.TreeData.{Tree, Released, Live, Trees, no_trees, more_trees, MaybeTree, absent, present, trees, tree_list}
-use Rattle.tree_model.specs.TreeCost.{Nodes, nodes_of_all, nodes_of_maybe, Holds, holds_of_all, holds_of_maybe, Cost, cost_of_all, cost_of_maybe}
+use Rattle.tree_model.specs.promise.TreeData.{Tree, Released, Live, Trees, no_trees, more_trees, MaybeTree, absent, present, trees, tree_list}
+use Rattle.tree_model.specs.promise.TreeCost.{Nodes, Holds, holds_of_all, holds_of_maybe, Cost, cost_of_all, cost_of_maybe}
+use Rattle.tree_model.specs.TreeCost.{nodes_of_all, nodes_of_maybe}
 use Rattle.tree_model.specs.TreeLaws.{CostIsNodesAndHolds, TakenChildCost, TakenDictionaryCost, PutChildCost, ChangedCost, ChangedDepth}
 use Rattle.tree_model.proofs.Lists.{trees-tree_list}
 use Rattle.tree_model.proofs.Likeness.{Cost-map, Depth-map}

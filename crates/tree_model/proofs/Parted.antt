@@ -1,7 +1,10 @@
 -- The cost and the number of children of a tree that a part was put into or taken out of.
 use Rattle.std.proofs.Common.{◌≡◌, ℕ, ◌+◌, ◌<◌, List, [], ◌∷◌, length, get_or, set, refl, ap, ◌∙◌, arith, suc, zero}
 use Rattle.std.proofs.lemmas.List.{length-set}
-use Rattle.tree_model.specs.Tree.{Tree, Released, Live, trees, tree_list, MaybeTree, absent, present, Cost, cost_of_all, children_of, child_at, dictionary_at}
+use Rattle.tree_model.specs.promise.TreeData.{Tree, Released, Live, trees, tree_list, MaybeTree, absent, present}
+use Rattle.tree_model.specs.promise.TreeCost.{Cost, cost_of_all}
+use Rattle.tree_model.specs.promise.TreeParts.{children_of, child_at}
+use Rattle.tree_model.specs.Tree.{dictionary_at}
 use Rattle.tree_model.specs.Tree.{with_child, without_dictionary}
 use Rattle.tree_model.proofs.Lists.{trees-tree_list, tree_list-trees}
 

@@ -2,7 +2,7 @@
 -- that is taken out leaves a released one in its place.
 use Rattle.std.specs.Prelude.{ℕ}
 use Rattle.std.proofs.Common.{set}
-use Rattle.tree_model.specs.TreeData.{Tree, Released, Live, Trees, no_trees, more_trees, MaybeTree, absent, present, trees, tree_list}
+use Rattle.tree_model.specs.promise.TreeData.{Tree, Released, Live, Trees, no_trees, more_trees, MaybeTree, absent, present, trees, tree_list}
 
 abbrev pub with_members : {M : Type 0} → (M → M) → Tree M → Tree M
 with_members change Released = Released

@@ -1,8 +1,10 @@
 -- What the acts on trees keep, for trees over any members.
 use Rattle.std.specs.Prelude.{◌≡◌, ℕ, ◌+◌, ◌<◌, length}
-use Rattle.tree_model.specs.TreeData.{Tree, Released}
-use Rattle.tree_model.specs.TreeParts.{children_of, child_at, dictionary_at}
-use Rattle.tree_model.specs.TreeCost.{Nodes, Holds, Cost, Depth}
+use Rattle.tree_model.specs.promise.TreeData.{Tree, Released}
+use Rattle.tree_model.specs.promise.TreeParts.{children_of, child_at}
+use Rattle.tree_model.specs.TreeParts.{dictionary_at}
+use Rattle.tree_model.specs.promise.TreeCost.{Nodes, Holds, Cost}
+use Rattle.tree_model.specs.TreeCost.{Depth}
 use Rattle.tree_model.specs.TreeActs.{with_child, without_dictionary, map_tree}
 
 abbrev pub CostIsNodesAndHolds : Type 0 → Type 0

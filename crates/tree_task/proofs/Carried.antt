@@ -4,43 +4,46 @@ use Rattle.std.proofs.Common.{IfErr, IsErrAnd, OnOk, ap, arith, refl, subst, sym
 use Rattle.std.proofs.lemmas.Bool.Decides.{nat_tests}
 use Rattle.std.proofs.lemmas.List.{length-append}
 use Rattle.std.specs.Io.KnownBytes.{Appends, IsAtEnd, Keeps}
-use Rattle.edge_io.specs.Edge.{LosesCount}
-use Rattle.data_types.specs.KindTrees.{KindTree}
-use Rattle.layout_rules.specs.Walk.{Fault as ArrayFault, first_chunk_fault, first_fault}
-use Rattle.raw_array.specs.Members.{ArrayTree}
-use Rattle.raw_schema.specs.Members.{SchemaTree}
-use Rattle.schema_check.specs.SchemaAnswers.{FirstFault}
-use Rattle.tree_check.specs.Checks.{array_fault, schema_fault}
+use Rattle.edge_io.specs.promise.Edge.{LosesCount}
+use Rattle.data_types.specs.promise.KindTrees.{KindTree}
+use Rattle.layout_rules.specs.promise.Walk.{Fault as ArrayFault, first_chunk_fault, first_fault}
+use Rattle.raw_array.specs.promise.Members.{ArrayTree}
+use Rattle.raw_schema.specs.promise.Members.{SchemaTree}
+use Rattle.schema_check.specs.promise.SchemaAnswers.{FirstFault}
+use Rattle.tree_check.specs.promise.Checks.{array_fault, schema_fault}
 use Rattle.tree_check.specs.declared.fault.TreeFault.{TreeFault}
 use Rattle.tree_check.specs.declared.fault.TreeFault.TheVariants as trees
-use Rattle.tree_model.specs.Tree.{children_of}
+use Rattle.tree_model.specs.promise.TreeParts.{children_of}
 use Rattle.tree_text.specs.declared.fault.TextFault.{TextFault}
-use Rattle.tree_task.specs.Answer.{Answer, AnswerWithin, AreBytes, CountsCommand, Fault, IsAnswerTo, IsTooLong, ReadAnswer, Text, TextAnswer}
-use Rattle.tree_task.specs.Answer.{TreesAnswer, input_limit}
-use Rattle.tree_task.specs.Faults.{AtWriteFault, AtWriting, Cause, Memory, OfLength, OfTrees, OfWords, Reading, Writing}
-use Rattle.tree_task.specs.Faults.{cause_of, fault_in, is_decided, is_write_fault, is_writing}
-use Rattle.data_types.specs.Table.{Row}
-use Rattle.layout_rules.specs.Values.{rows_of}
-use Rattle.list_cols.specs.Nested.{Explode, Nest}
+use Rattle.tree_task.specs.promise.TextOrFault.{Answer, Fault, Text}
+use Rattle.tree_task.specs.promise.Answer.{AnswerWithin, AreBytes, CountsCommand, IsAnswerTo, ReadAnswer, TextAnswer}
+use Rattle.tree_task.specs.Answer.{IsTooLong}
+use Rattle.tree_task.specs.promise.Answer.{TreesAnswer, input_limit}
+use Rattle.tree_task.specs.promise.Faults.{AtWriteFault, AtWriting, Cause, Memory, OfLength, OfTrees, OfWords, Reading, Writing}
+use Rattle.tree_task.specs.promise.Faults.{cause_of, is_decided, is_write_fault, is_writing}
+use Rattle.tree_task.specs.Faults.{fault_in}
+use Rattle.data_types.specs.promise.Table.{Row}
+use Rattle.layout_rules.specs.promise.Values.{rows_of}
+use Rattle.list_cols.specs.promise.Nested.{Explode, Nest}
 use Rattle.list_cols.specs.declared.fault.ListFault.{ListFault}
-use Rattle.run_ends.specs.RunRules.{RunsFound, runs_fault}
-use Rattle.run_ends.specs.RunSchemas.{SchemaFound as RunsSchemaFound}
-use Rattle.run_ends.specs.Runs.{RunTree}
+use Rattle.run_ends.specs.promise.RunRules.{RunsFound, runs_fault}
+use Rattle.run_ends.specs.promise.RunSchemas.{SchemaFound as RunsSchemaFound}
+use Rattle.run_ends.specs.promise.Runs.{RunTree}
 use Rattle.run_ends.specs.declared.code_fault.CodeFault.{CodeFault}
-use Rattle.tree_task.specs.ChunkAnswer.{ChunkCommand, answer_of_chunk, answer_of_kinds}
-use Rattle.tree_task.specs.FlatAnswer.{flat_of_schema, flat_unless}
-use Rattle.tree_task.specs.ForeignAnswer.{chunk_of_kinds, chunk_unless}
-use Rattle.tree_task.specs.ListsAnswer.{exploded, lines_unless, nested, rows_unless as new_rows_unless, answer_of_column}
-use Rattle.tree_task.specs.Over.{RanOver, ReadFor}
-use Rattle.tree_task.specs.Refusals.{fault_of_tree}
-use Rattle.tree_task.specs.RowsAnswer.{rows_of_kinds, rows_unless}
-use Rattle.tree_task.specs.RunsAnswer.{runs_of_array, runs_of_kinds, runs_unless}
-use Rattle.tree_task.specs.TagAnswer.{tags_of_columns, tags_unless}
-use Rattle.tree_task.specs.UnionAnswer.{union_of_schema, union_unless}
+use Rattle.tree_task.specs.promise.ChunkAnswer.{ChunkCommand, answer_of_chunk, answer_of_kinds}
+use Rattle.tree_task.specs.promise.FlatAnswer.{flat_of_schema, flat_unless}
+use Rattle.tree_task.specs.promise.ForeignAnswer.{chunk_of_kinds, chunk_unless}
+use Rattle.tree_task.specs.promise.ListsAnswer.{exploded, lines_unless, nested, rows_unless as new_rows_unless, answer_of_column}
+use Rattle.tree_task.specs.promise.Over.{RanOver, ReadFor}
+use Rattle.tree_task.specs.promise.Refusals.{fault_of_tree}
+use Rattle.tree_task.specs.promise.RowsAnswer.{rows_of_kinds, rows_unless}
+use Rattle.tree_task.specs.promise.RunsAnswer.{runs_of_array, runs_of_kinds, runs_unless}
+use Rattle.tree_task.specs.promise.TagAnswer.{tags_of_columns, tags_unless}
+use Rattle.tree_task.specs.promise.UnionAnswer.{union_of_schema, union_unless}
 use Rattle.union_cols.specs.declared.tag_fault.TagFault.{TagFault}
-use Rattle.union_cols.specs.UnionRules.{UnionFound, union_fault}
-use Rattle.union_cols.specs.UnionSchemas.{SchemaFound}
-use Rattle.union_cols.specs.Unions.{UnionTree}
+use Rattle.union_cols.specs.promise.UnionRules.{UnionFound, union_fault}
+use Rattle.union_cols.specs.promise.UnionSchemas.{SchemaFound}
+use Rattle.union_cols.specs.promise.Unions.{UnionTree}
 use Rattle.tree_task.specs.declared.command.Command.{Command}
 use Rattle.tree_task.specs.declared.command.Command.TheVariants as commands
 use Rattle.tree_task.specs.declared.fault.TreeRunFault.{TreeRunFault}

@@ -1,21 +1,22 @@
 -- What is answered to a chunk.
 use Rattle.std.proofs.Common.{◌≡◌, ◌∙◌, ◌⊎◌, ℕ, List, None, Some, Result, Ok, Err, IfOk, IfErr, inl, inr, ap, sym}
-use Rattle.data_types.specs.KindTrees.{KindTree}
-use Rattle.data_types.specs.Ways.{steps_of}
+use Rattle.data_types.specs.promise.KindTrees.{KindTree}
+use Rattle.data_types.specs.promise.Ways.{steps_of}
 use Rattle.layout_rules.specs.Found.{fault_of}
-use Rattle.layout_rules.specs.Walk.{first_chunk_fault}
+use Rattle.layout_rules.specs.promise.Walk.{first_chunk_fault}
 use Rattle.layout_rules.specs.declared.rule.LayoutFault.{LayoutFault}
-use Rattle.raw_array.specs.Members.{ArrayTree}
-use Rattle.raw_schema.specs.Members.{SchemaTree}
-use Rattle.schema_check.specs.SchemaAnswers.{FirstFault, IsFirstFault}
-use Rattle.schema_check.specs.Schemas.{TypedOf}
+use Rattle.raw_array.specs.promise.Members.{ArrayTree}
+use Rattle.raw_schema.specs.promise.Members.{SchemaTree}
+use Rattle.schema_check.specs.promise.SchemaAnswers.{FirstFault}
+use Rattle.schema_check.specs.SchemaAnswers.{IsFirstFault}
+use Rattle.schema_check.specs.promise.Schemas.{TypedOf}
 use Rattle.schema_check.specs.declared.schema.SchemaFault.{SchemaFault}
 use Rattle.schema_check.specs.declared.schema.SchemaFault.TheVariants as schemas
 use Rattle.tree_check.specs.Checks.{array_refused, schema_refused}
 use Rattle.tree_check.specs.declared.fault.CheckFault.{CheckFault}
-use Rattle.tree_task.specs.ChunkAnswer.{ChunkAnswer, ChunkCommand, answer_of_chunk}
+use Rattle.tree_task.specs.promise.ChunkAnswer.{ChunkAnswer, ChunkCommand, answer_of_chunk}
 use Rattle.tree_task.specs.Refusals.{fault_of_check}
-use Rattle.tree_task.specs.TextOrFault.{Answer, Fault, Text}
+use Rattle.tree_task.specs.promise.TextOrFault.{Answer, Fault, Text}
 use Rattle.tree_task.specs.declared.fault.TreeRunFault.{TreeRunFault}
 use Rattle.tree_task.specs.declared.fault.TreeRunFault.TheVariants as run
 

@@ -8,7 +8,7 @@ use Rattle.std.specs.Str.{all_ascii_digits}
 use Rattle.std.specs.Str.Parse.{ParsesUnsigned, digits_value}
 use Rattle.std.proofs.lemmas.Bool.{and_parts, le-leb, leb-true}
 use Rattle.std.proofs.lemmas.Str.Parse.{IsNumeralModel, numerals_by_value, parse_plain, tells_all_ascii_digits}
-use Rattle.tree_task.specs.Columns.{begins_number, column_number, most_column}
+use Rattle.tree_task.specs.promise.Columns.{begins_number, column_number, most_column}
 
 some : (text : List ℕ) → begins_number text ≡ true → 0 < length text
 some [] e = cc

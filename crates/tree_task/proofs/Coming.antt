@@ -1,36 +1,40 @@
 -- What a command answers, from what its parts come to.
 use Rattle.std.proofs.Common.{◌≡◌, ◌≢◌, ◌⊎◌, ◌∙◌, ℕ, List, None, Some, Result, Ok, Err, IfOk, IfErr, inl, inr, ap, sym, refl, subst}
-use Rattle.data_types.specs.KindTrees.{KindTree}
-use Rattle.data_types.specs.Ways.{steps_of}
+use Rattle.data_types.specs.promise.KindTrees.{KindTree}
+use Rattle.data_types.specs.promise.Ways.{steps_of}
 use Rattle.layout_rules.specs.Found.{fault_of}
-use Rattle.layout_rules.specs.Values.{values_of}
-use Rattle.layout_rules.specs.Walk.{first_fault}
+use Rattle.layout_rules.specs.promise.Values.{values_of}
+use Rattle.layout_rules.specs.promise.Walk.{first_fault}
 use Rattle.layout_rules.specs.declared.rule.LayoutFault.{LayoutFault}
-use Rattle.raw_array.specs.Members.{ArrayTree}
-use Rattle.raw_schema.specs.Members.{SchemaTree}
-use Rattle.schema_check.specs.SchemaAnswers.{FirstFault, IsFirstFault, SchemaReads}
-use Rattle.schema_check.specs.Schemas.{TypedOf}
+use Rattle.raw_array.specs.promise.Members.{ArrayTree}
+use Rattle.raw_schema.specs.promise.Members.{SchemaTree}
+use Rattle.schema_check.specs.promise.SchemaAnswers.{FirstFault, SchemaReads}
+use Rattle.schema_check.specs.SchemaAnswers.{IsFirstFault}
+use Rattle.schema_check.specs.promise.Schemas.{TypedOf}
 use Rattle.schema_check.specs.declared.schema.SchemaFault.{SchemaFault}
 use Rattle.schema_check.specs.declared.schema.SchemaFault.TheVariants as schemas
-use Rattle.tree_check.specs.Checks.{array_refused, schema_fault, schema_refused, text_refused}
+use Rattle.tree_check.specs.promise.Checks.{schema_fault}
+use Rattle.tree_check.specs.Checks.{array_refused, schema_refused, text_refused}
 use Rattle.tree_check.specs.declared.fault.CheckFault.{CheckFault}
-use Rattle.tree_text.specs.Answers.{Reads}
+use Rattle.tree_text.specs.promise.Answers.{Reads}
 use Rattle.tree_text.specs.declared.fault.TextFault.{TextFault}
 use Rattle.tree_text.specs.declared.fault.TextFault.TheVariants as texts
-use Rattle.data_types.specs.ValueTexts.{lines_text}
+use Rattle.data_types.specs.promise.ValueTexts.{lines_text}
 use Rattle.union_cols.specs.UnionAnswers.{FailsIf, IsUnionFault, found_of, named}
-use Rattle.union_cols.specs.UnionRules.{union_fault}
-use Rattle.union_cols.specs.UnionSchemas as found
-use Rattle.union_cols.specs.UnionSchemas.{UnionOf}
-use Rattle.union_cols.specs.Unions.{UnionTree, union_items}
+use Rattle.union_cols.specs.promise.UnionRules.{union_fault}
+use Rattle.union_cols.specs.promise.UnionSchemas as found
+use Rattle.union_cols.specs.promise.UnionSchemas.{UnionOf}
+use Rattle.union_cols.specs.promise.Unions.{UnionTree, union_items}
 use Rattle.union_cols.specs.declared.rule.UnionFault.{UnionFault}
 use Rattle.union_cols.specs.declared.schema_fault.UnionSchemaFault.{UnionSchemaFault}
 use Rattle.union_cols.specs.declared.schema_fault.UnionSchemaFault.TheVariants as unions
 use Rattle.root_check.specs.declared.own_schema.OwnSchemaFault.TheVariants as parts
-use Rattle.tree_task.specs.Answer.{Answer, Fault, Text, TextAnswer, TreesAnswer}
-use Rattle.tree_task.specs.RowsAnswer.{RowsAnswer, rows_unless}
-use Rattle.tree_task.specs.UnionAnswer.{UnionAnswer, items_text, union_unless}
-use Rattle.tree_task.specs.Refusals.{fault_of_check, fault_of_tree, fault_of_union_schema, union_fault_told}
+use Rattle.tree_task.specs.promise.TextOrFault.{Answer, Fault, Text}
+use Rattle.tree_task.specs.promise.Answer.{TextAnswer, TreesAnswer}
+use Rattle.tree_task.specs.promise.RowsAnswer.{RowsAnswer, rows_unless}
+use Rattle.tree_task.specs.promise.UnionAnswer.{UnionAnswer, items_text, union_unless}
+use Rattle.tree_task.specs.promise.Refusals.{fault_of_tree, union_fault_told}
+use Rattle.tree_task.specs.Refusals.{fault_of_check, fault_of_union_schema}
 use Rattle.tree_task.specs.declared.command.Command.{Command}
 use Rattle.tree_task.specs.declared.fault.TreeRunFault.{TreeRunFault}
 use Rattle.tree_task.specs.declared.fault.TreeRunFault.TheVariants as run

@@ -1,9 +1,10 @@
 -- The trees of a text keep no more units than it has lines.
 use Rattle.std.proofs.Common.{◌≡◌, ◌+◌, ◌≤◌, ℕ, List, [], ◌∷◌, length, map, Option, None, Some, Ok, ap, arith, length-append}
-use Rattle.raw_array.specs.Members.{ArrayMembers, ArrayTree, Buffer, Cost, holds, holds_of}
-use Rattle.raw_schema.specs.Members.{Nodes, SchemaTree, no_holds}
-use Rattle.tree_text.specs.Answers.{Reads, most_lines}
-use Rattle.tree_text.specs.TreeText.{array_lines, array_node_lines, buffer_line, released_array, released_schema, schema_lines, schema_node_lines}
+use Rattle.raw_array.specs.promise.Members.{ArrayMembers, ArrayTree, Buffer, Cost, holds, holds_of}
+use Rattle.tree_model.specs.promise.TreeCost.{Nodes, no_holds}
+use Rattle.raw_schema.specs.promise.Members.{SchemaTree}
+use Rattle.tree_text.specs.promise.Answers.{Reads, most_lines}
+use Rattle.tree_text.specs.promise.TreeText.{array_lines, array_node_lines, buffer_line, released_array, released_schema, schema_lines, schema_node_lines}
 use Rattle.tree_text.proofs.TreeLaws.{cost_le_lines}
 use Rattle.unit_pass.specs.declared.pass.TheConstants.{CHUNK, ROOM}
 

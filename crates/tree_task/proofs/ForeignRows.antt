@@ -4,23 +4,25 @@ use Rattle.std.proofs.Common.{ap, arith, refl, subst, sym, if◌then◌else◌, 
 use Rattle.std.specs.Option.{option_or}
 use Rattle.std.proofs.lemmas.Bool.{cases_Bool, cases_eq}
 use Rattle.std.proofs.lemmas.List.{length-map}
-use Rattle.data_types.specs.Table.{Row}
-use Rattle.data_types.specs.Value.{Value, Null}
+use Rattle.data_types.specs.promise.Table.{Row}
+use Rattle.data_types.specs.promise.Value.{Value, Null}
 use Rattle.data_types.specs.declared.kind.DataType.{DataType}
 use Rattle.data_types.specs.declared.kind.DataType.TheVariants as kinds
 use Rattle.foreign_array.specs.Drained.{Drained, Refused, first_refused, refused_at, table_if}
 use Rattle.foreign_array.specs.declared.draining.DrainFault.TheVariants as drains
-use Rattle.data_types.specs.KindTrees.{KindTree, TypedOk}
+use Rattle.data_types.specs.promise.KindTrees.{KindTree}
+use Rattle.data_types.specs.KindTrees.{TypedOk}
 use Rattle.layout_rules.specs.Found.{fault_of}
 use Rattle.layout_rules.specs.Lawful.{ChunkHolds}
-use Rattle.layout_rules.specs.Layout.{is_valid, items}
-use Rattle.layout_rules.specs.Rules.{null_total}
-use Rattle.layout_rules.specs.Values.{each, item, readers, row_items, rows_of, value_at, values_of}
-use Rattle.layout_rules.specs.Walk.{ChunkOk, Fault as ArrayFault, LayoutOk, first_chunk_fault, first_fault, top_fault}
+use Rattle.layout_rules.specs.promise.Layout.{is_valid, items}
+use Rattle.layout_rules.specs.promise.Rules.{null_total}
+use Rattle.layout_rules.specs.promise.Values.{each, item, readers, row_items, rows_of, value_at, values_of}
+use Rattle.layout_rules.specs.promise.Walk.{ChunkOk, Fault as ArrayFault, LayoutOk, first_chunk_fault, first_fault, top_fault}
 use Rattle.layout_rules.specs.declared.rule.LayoutFault.{LayoutFault}
-use Rattle.raw_array.specs.Members.{ArrayMembers, ArrayTree}
-use Rattle.tree_model.specs.Tree.{IsLive, Live, MaybeTree, Released, Trees, absent, option_tree, present, tree_list}
-use Rattle.tree_task.specs.ForeignAnswer.{row_value}
+use Rattle.raw_array.specs.promise.Members.{ArrayMembers, ArrayTree}
+use Rattle.tree_model.specs.promise.TreeParts.{IsLive}
+use Rattle.tree_model.specs.promise.TreeData.{Live, MaybeTree, Released, Trees, absent, option_tree, present, tree_list}
+use Rattle.tree_task.specs.promise.ForeignAnswer.{row_value}
 use Rattle.tree_task.specs.Gathered.{shown_in, tables_in}
 use Rattle.tree_task.specs.declared.shown.Lines.{Lines}
 

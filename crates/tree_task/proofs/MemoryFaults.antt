@@ -1,51 +1,53 @@
 -- No answer is a fault with an out-of-memory inside it.
 use Rattle.std.proofs.Common.{if◌then◌else◌, not, length, ◌≡◌, ◌∙◌, ◌+◌, ℕ, Bool, true, false, List, [], ◌∷◌, suc, Option, None, Some, Result, Ok, Err, ap, inl, inr, refl}
 use Rattle.fmt_string.specs.declared.fault.FormatFault.TheVariants as format
-use Rattle.data_types.specs.KindTrees.{KindTree}
-use Rattle.data_types.specs.Ways.{Steps}
-use Rattle.layout_rules.specs.Walk.{Fault as ArrayFault, first_chunk_fault, first_fault}
-use Rattle.raw_array.specs.Members.{ArrayTree}
-use Rattle.raw_schema.specs.Members.{SchemaMembers, SchemaTree, members_of}
-use Rattle.schema_check.specs.SchemaAnswers.{FirstFault, MetaRefused, SchemaReads}
-use Rattle.schema_check.specs.Schemas.{DictFault, FailsHere, FaultFrom, KidFault}
+use Rattle.data_types.specs.promise.KindTrees.{KindTree}
+use Rattle.data_types.specs.promise.Ways.{Steps}
+use Rattle.layout_rules.specs.promise.Walk.{Fault as ArrayFault, first_chunk_fault, first_fault}
+use Rattle.raw_array.specs.promise.Members.{ArrayTree}
+use Rattle.raw_schema.specs.promise.Members.{SchemaMembers, SchemaTree, members_of}
+use Rattle.schema_check.specs.promise.SchemaAnswers.{FirstFault, MetaRefused, SchemaReads}
+use Rattle.schema_check.specs.promise.Schemas.{DictFault, FailsHere, FaultFrom, KidFault}
 use Rattle.schema_check.specs.declared.rule.SchemaRule.{SchemaRule}
 use Rattle.schema_check.specs.declared.rule.SchemaRule.TheVariants as rules
 use Rattle.schema_meta.specs.declared.fault.MetaFault.{MetaFault}
 use Rattle.schema_meta.specs.declared.fault.MetaFault.TheVariants as meta
-use Rattle.tree_model.specs.Tree.{Released, Live, Trees, no_trees, more_trees, MaybeTree, absent, present, children_of}
-use Rattle.tree_text.specs.Answers.{Reads}
+use Rattle.tree_model.specs.promise.TreeData.{Released, Live, Trees, no_trees, more_trees, MaybeTree, absent, present}
+use Rattle.tree_model.specs.promise.TreeParts.{children_of}
+use Rattle.tree_text.specs.promise.Answers.{Reads}
 use Rattle.tree_text.specs.declared.fault.TextFault.{TextFault}
 use Rattle.tree_text.specs.declared.fault.TextFault.TheVariants as texts
-use Rattle.root_check.specs.Schemas.{OwnSchemaReads}
+use Rattle.root_check.specs.promise.Schemas.{OwnSchemaReads}
 use Rattle.root_check.specs.declared.own_schema.OwnSchemaFault.{OwnSchemaFault}
 use Rattle.root_check.specs.declared.own_schema.OwnSchemaFault.TheVariants as parts
-use Rattle.data_types.specs.Table.{Row}
-use Rattle.layout_rules.specs.Values.{rows_of}
-use Rattle.list_cols.specs.Nested.{Explode, Nest}
-use Rattle.list_cols.specs.Faults as lists
+use Rattle.data_types.specs.promise.Table.{Row}
+use Rattle.layout_rules.specs.promise.Values.{rows_of}
+use Rattle.list_cols.specs.promise.Nested.{Explode, Nest}
+use Rattle.list_cols.specs.promise.Faults as lists
 use Rattle.run_ends.specs.declared.code_fault.CodeFault.TheVariants as codings
-use Rattle.run_ends.specs.RunRules.{RunsFound, runs_fault}
-use Rattle.run_ends.specs.RunSchemas as runs
-use Rattle.run_ends.specs.RunSchemas.{RunsReads, RunsSchemaFails}
-use Rattle.run_ends.specs.RunSchemas.{SchemaFound as RunsSchemaFound}
-use Rattle.run_ends.specs.Runs.{RunTree}
+use Rattle.run_ends.specs.promise.RunRules.{RunsFound, runs_fault}
+use Rattle.run_ends.specs.promise.RunSchemas as runs
+use Rattle.run_ends.specs.promise.RunSchemas.{RunsReads, RunsSchemaFails}
+use Rattle.run_ends.specs.promise.RunSchemas.{SchemaFound as RunsSchemaFound}
+use Rattle.run_ends.specs.promise.Runs.{RunTree}
 use Rattle.union_cols.specs.declared.tag_fault.TagFault.TheVariants as tags
-use Rattle.union_cols.specs.UnionRules.{UnionFound, union_fault}
-use Rattle.union_cols.specs.UnionSchemas as found
-use Rattle.union_cols.specs.UnionSchemas.{SchemaFound, UnionReads, UnionSchemaFails}
-use Rattle.union_cols.specs.Unions.{UnionTree}
-use Rattle.tree_task.specs.Answer.{Answer, AnswerWithin, Fault, IsAnswerTo, ReadAnswer, Text, TreesAnswer, is_too_long}
-use Rattle.tree_task.specs.ChunkAnswer.{ChunkCommand, answer_of_chunk, answer_of_kinds}
-use Rattle.tree_task.specs.FlatAnswer.{flat_of_schema, flat_unless}
-use Rattle.tree_task.specs.ForeignAnswer.{chunk_of_kinds, chunk_unless}
-use Rattle.tree_task.specs.ListsAnswer.{exploded, lines_unless, nested, rows_unless as new_rows_unless, answer_of_column}
-use Rattle.tree_task.specs.Refusals.{own_part_fault, union_schema_fault}
-use Rattle.tree_task.specs.RowsAnswer.{rows_of_kinds, rows_unless}
-use Rattle.tree_task.specs.RunRefusals.{runs_part_fault, runs_schema_fault}
-use Rattle.tree_task.specs.RunsAnswer.{runs_of_array, runs_of_kinds, runs_unless}
-use Rattle.tree_task.specs.TagAnswer.{tags_of_columns, tags_unless}
-use Rattle.tree_task.specs.UnionAnswer.{union_of_schema, union_unless}
-use Rattle.tree_task.specs.Faults.{has_memory_inside, is_decided, is_meta_memory, is_text_memory, rule_has_memory, runs_has_memory, union_has_memory}
+use Rattle.union_cols.specs.promise.UnionRules.{UnionFound, union_fault}
+use Rattle.union_cols.specs.promise.UnionSchemas as found
+use Rattle.union_cols.specs.promise.UnionSchemas.{SchemaFound, UnionReads, UnionSchemaFails}
+use Rattle.union_cols.specs.promise.Unions.{UnionTree}
+use Rattle.tree_task.specs.promise.TextOrFault.{Answer, Fault, Text}
+use Rattle.tree_task.specs.promise.Answer.{AnswerWithin, IsAnswerTo, ReadAnswer, TreesAnswer, is_too_long}
+use Rattle.tree_task.specs.promise.ChunkAnswer.{ChunkCommand, answer_of_chunk, answer_of_kinds}
+use Rattle.tree_task.specs.promise.FlatAnswer.{flat_of_schema, flat_unless}
+use Rattle.tree_task.specs.promise.ForeignAnswer.{chunk_of_kinds, chunk_unless}
+use Rattle.tree_task.specs.promise.ListsAnswer.{exploded, lines_unless, nested, rows_unless as new_rows_unless, answer_of_column}
+use Rattle.tree_task.specs.promise.Refusals.{own_part_fault, union_schema_fault}
+use Rattle.tree_task.specs.promise.RowsAnswer.{rows_of_kinds, rows_unless}
+use Rattle.tree_task.specs.promise.RunRefusals.{runs_part_fault, runs_schema_fault}
+use Rattle.tree_task.specs.promise.RunsAnswer.{runs_of_array, runs_of_kinds, runs_unless}
+use Rattle.tree_task.specs.promise.TagAnswer.{tags_of_columns, tags_unless}
+use Rattle.tree_task.specs.promise.UnionAnswer.{union_of_schema, union_unless}
+use Rattle.tree_task.specs.promise.Faults.{has_memory_inside, is_decided, is_meta_memory, is_text_memory, rule_has_memory, runs_has_memory, union_has_memory}
 use Rattle.tree_task.specs.declared.command.Command.{Command}
 use Rattle.tree_task.specs.declared.command.Command.TheVariants as commands
 use Rattle.tree_task.specs.declared.fault.TreeRunFault.{TreeRunFault}

@@ -9,16 +9,16 @@ use Rattle.std.proofs.lemmas.Grind.{flat_map-append}
 use Rattle.std.proofs.lemmas.List.{append-nil, map-append}
 use Rattle.std.proofs.Math.Nat.{suc-mul, zero-mul}
 use Rattle.std.proofs.DigitsParse.{digits_onto-nil}
-use Rattle.data_types.specs.Parts.{replaced, value_list}
-use Rattle.data_types.specs.Table.{Row}
-use Rattle.data_types.specs.Value.{Value, Values, values, no_values, more_values, Null, Truth, Whole, Bits, Bytes, Items, Fields}
-use Rattle.data_types.specs.ValueTexts.{value_line, value_text}
-use Rattle.layout_rules.specs.Values.{each}
+use Rattle.data_types.specs.promise.Parts.{replaced, value_list}
+use Rattle.data_types.specs.promise.Table.{Row}
+use Rattle.data_types.specs.promise.Value.{Value, Values, values, no_values, more_values, Null, Truth, Whole, Bits, Bytes, Items, Fields}
+use Rattle.data_types.specs.promise.ValueTexts.{value_line, value_text}
+use Rattle.layout_rules.specs.promise.Values.{each}
 use Rattle.list_cols.proofs.Replaced.{length-replaced}
-use Rattle.list_cols.specs.Nested.{Explode, items_in}
+use Rattle.list_cols.specs.promise.Nested.{Explode, items_in}
 use Rattle.value_text.proofs.Parts.{each-more, parts}
 use Rattle.value_text.specs.Lengths.{capped}
-use Rattle.tree_task.specs.ForeignAnswer.{row_value}
+use Rattle.tree_task.specs.promise.ForeignAnswer.{row_value}
 use Rattle.tree_task.specs.NewLengths.{most_lines}
 
 -- ---- no text is empty

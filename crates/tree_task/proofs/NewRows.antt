@@ -1,27 +1,29 @@
 -- What the making of new rows of a chunk comes to.
 use Rattle.std.proofs.Common.{◌≡◌, ◌<◌, ◌≤◌, ◌∙◌, ◌⊎◌, ℕ, Bool, true, false, nat_lt, if◌then◌else◌, arith, List, length, map, Option, None, Some, Result, Ok, Err, IfOk, IfErr, OnOk, inl, inr, ap, refl, subst, sym}
 use Rattle.std.proofs.lemmas.Bool.Decides.{nat_tests}
-use Rattle.data_types.specs.Table.{Row}
-use Rattle.data_types.specs.KindTrees.{KindTree, TypedOk}
-use Rattle.data_types.specs.Ways.{Steps}
+use Rattle.data_types.specs.promise.Table.{Row}
+use Rattle.data_types.specs.promise.KindTrees.{KindTree}
+use Rattle.data_types.specs.KindTrees.{TypedOk}
+use Rattle.data_types.specs.promise.Ways.{Steps}
 use Rattle.layout_rules.specs.Lawful.{ChunkHolds}
-use Rattle.layout_rules.specs.Values.{rows_of, values_of}
-use Rattle.layout_rules.specs.Walk.{ChunkOk, first_chunk_fault}
-use Rattle.list_cols.specs.Faults.{IsRefusedBy, most_columns}
+use Rattle.layout_rules.specs.promise.Values.{rows_of, values_of}
+use Rattle.layout_rules.specs.promise.Walk.{ChunkOk, first_chunk_fault}
+use Rattle.list_cols.specs.promise.Faults.{most_columns}
+use Rattle.list_cols.specs.Faults.{IsRefusedBy}
 use Rattle.list_cols.specs.declared.fault.ListFault.{ListFault}
 use Rattle.list_cols.specs.declared.fault.ListFault.TheVariants as lists
-use Rattle.raw_array.specs.Members.{ArrayTree}
-use Rattle.raw_schema.specs.Members.{SchemaTree}
-use Rattle.schema_check.specs.SchemaAnswers.{FirstFault, SchemaReads}
-use Rattle.schema_check.specs.Schemas.{SchemaFaultIs, TypedOf}
+use Rattle.raw_array.specs.promise.Members.{ArrayTree}
+use Rattle.raw_schema.specs.promise.Members.{SchemaTree}
+use Rattle.schema_check.specs.promise.SchemaAnswers.{FirstFault, SchemaReads}
+use Rattle.schema_check.specs.promise.Schemas.{SchemaFaultIs, TypedOf}
 use Rattle.schema_check.specs.declared.rule.SchemaRule.{SchemaRule}
-use Rattle.tree_model.specs.Tree.{IsLive, children_of}
-use Rattle.data_types.specs.ValueTexts.{lines_text}
-use Rattle.tree_task.specs.ChunkAnswer.{ChunkAnswer}
-use Rattle.tree_task.specs.ForeignAnswer.{row_value}
-use Rattle.tree_task.specs.ListsAnswer.{column_fault, lines_unless, rows_unless, answer_of_column}
+use Rattle.tree_model.specs.promise.TreeParts.{IsLive, children_of}
+use Rattle.data_types.specs.promise.ValueTexts.{lines_text}
+use Rattle.tree_task.specs.promise.ChunkAnswer.{ChunkAnswer}
+use Rattle.tree_task.specs.promise.ForeignAnswer.{row_value}
+use Rattle.tree_task.specs.promise.ListsAnswer.{column_fault, lines_unless, rows_unless, answer_of_column}
 use Rattle.tree_task.specs.Refusals.{fault_of_list}
-use Rattle.tree_task.specs.TextOrFault.{Answer, Fault, Text}
+use Rattle.tree_task.specs.promise.TextOrFault.{Answer, Fault, Text}
 use Rattle.tree_task.specs.declared.fault.TreeRunFault.{TreeRunFault}
 use Rattle.tree_task.specs.declared.fault.TreeRunFault.TheVariants as run
 use Rattle.tree_task.proofs.Chunks.{IsChunkFault, chunk-fault, chunk-is, chunk-text}

@@ -1,26 +1,27 @@
 -- A command and bytes have one answer.
 use Rattle.std.proofs.Common.{◌≡◌, ◌∙◌, ℕ, Bool, true, false, List, Option, None, Some, Result, Ok, Err, ap, refl, subst, sym}
-use Rattle.data_types.specs.KindTrees.{KindTree}
-use Rattle.raw_array.specs.Members.{ArrayTree}
-use Rattle.raw_schema.specs.Members.{SchemaTree}
-use Rattle.schema_check.specs.SchemaAnswers.{FirstFault, SchemaReads}
-use Rattle.tree_text.specs.Answers.{Reads}
+use Rattle.data_types.specs.promise.KindTrees.{KindTree}
+use Rattle.raw_array.specs.promise.Members.{ArrayTree}
+use Rattle.raw_schema.specs.promise.Members.{SchemaTree}
+use Rattle.schema_check.specs.promise.SchemaAnswers.{FirstFault, SchemaReads}
+use Rattle.tree_text.specs.promise.Answers.{Reads}
 use Rattle.tree_text.specs.declared.fault.TextFault.{TextFault}
-use Rattle.tree_text.specs.TreeText.{SchemaFits}
-use Rattle.union_cols.specs.UnionSchemas.{SchemaFound, UnionReads}
-use Rattle.union_cols.specs.Unions.{UnionTree}
-use Rattle.tree_task.specs.Answer.{Answer, AnswerWithin, Fault, IsAnswerTo, ReadAnswer, TextAnswer, TreesAnswer, is_too_long}
-use Rattle.run_ends.specs.RunSchemas.{RunsReads}
-use Rattle.run_ends.specs.RunSchemas.{SchemaFound as RunsSchemaFound}
-use Rattle.run_ends.specs.Runs.{RunTree}
-use Rattle.tree_task.specs.ChunkAnswer.{ChunkAnswer, ChunkCommand, answer_of_kinds}
-use Rattle.tree_task.specs.FlatAnswer.{FlatAnswer, flat_of_schema}
-use Rattle.tree_task.specs.ForeignAnswer.{ForeignAnswer, chunk_of_kinds}
-use Rattle.tree_task.specs.ListsAnswer.{exploded, nested, answer_of_column}
-use Rattle.tree_task.specs.RowsAnswer.{RowsAnswer, rows_of_kinds}
-use Rattle.tree_task.specs.RunsAnswer.{RunsAnswer, runs_of_kinds}
-use Rattle.tree_task.specs.TagAnswer.{tags_of_columns}
-use Rattle.tree_task.specs.UnionAnswer.{UnionAnswer, union_of_schema}
+use Rattle.tree_text.specs.promise.TreeText.{SchemaFits}
+use Rattle.union_cols.specs.promise.UnionSchemas.{SchemaFound, UnionReads}
+use Rattle.union_cols.specs.promise.Unions.{UnionTree}
+use Rattle.tree_task.specs.promise.TextOrFault.{Answer, Fault}
+use Rattle.tree_task.specs.promise.Answer.{AnswerWithin, IsAnswerTo, ReadAnswer, TextAnswer, TreesAnswer, is_too_long}
+use Rattle.run_ends.specs.promise.RunSchemas.{RunsReads}
+use Rattle.run_ends.specs.promise.RunSchemas.{SchemaFound as RunsSchemaFound}
+use Rattle.run_ends.specs.promise.Runs.{RunTree}
+use Rattle.tree_task.specs.promise.ChunkAnswer.{ChunkAnswer, ChunkCommand, answer_of_kinds}
+use Rattle.tree_task.specs.promise.FlatAnswer.{FlatAnswer, flat_of_schema}
+use Rattle.tree_task.specs.promise.ForeignAnswer.{ForeignAnswer, chunk_of_kinds}
+use Rattle.tree_task.specs.promise.ListsAnswer.{exploded, nested, answer_of_column}
+use Rattle.tree_task.specs.promise.RowsAnswer.{RowsAnswer, rows_of_kinds}
+use Rattle.tree_task.specs.promise.RunsAnswer.{RunsAnswer, runs_of_kinds}
+use Rattle.tree_task.specs.promise.TagAnswer.{tags_of_columns}
+use Rattle.tree_task.specs.promise.UnionAnswer.{UnionAnswer, union_of_schema}
 use Rattle.tree_task.proofs.SomeRuns.{some-runs}
 use Rattle.tree_task.proofs.SomeUnion.{SomeFormat, SomeKinds, SomeMetadata, some-union}
 use Rattle.tree_task.specs.declared.command.Command.{Command}

@@ -3,40 +3,41 @@ use Rattle.std.proofs.Common.{◌≡◌, ◌∙◌, ◌<◌, ◌≤◌, ◌+◌,
 use Rattle.std.proofs.Common.{inl, inr, ap, arith, refl, subst, sym, length-append, append-nil, append_assoc}
 use Rattle.std.proofs.Math.Nat.{suc-mul, zero-mul}
 use Rattle.std.specs.List.{flat_map}
-use Rattle.data_types.specs.Value.{Value}
-use Rattle.data_types.specs.Value.Value.{Null}
-use Rattle.data_types.specs.KindTrees.{KindTree}
-use Rattle.data_types.specs.Ways.{steps_of}
+use Rattle.data_types.specs.promise.Value.{Value}
+use Rattle.data_types.specs.promise.Value.Value.{Null}
+use Rattle.data_types.specs.promise.KindTrees.{KindTree}
+use Rattle.data_types.specs.promise.Ways.{steps_of}
 use Rattle.layout_rules.specs.Found.{fault_of}
-use Rattle.layout_rules.specs.Walk.{first_fault}
+use Rattle.layout_rules.specs.promise.Walk.{first_fault}
 use Rattle.layout_rules.specs.declared.rule.LayoutFault.{LayoutFault}
-use Rattle.raw_array.specs.Members.{ArrayTree}
-use Rattle.raw_schema.specs.Members.{SchemaTree}
+use Rattle.raw_array.specs.promise.Members.{ArrayTree}
+use Rattle.raw_schema.specs.promise.Members.{SchemaTree}
 use Rattle.root_check.specs.declared.own_schema.OwnSchemaFault.TheVariants as parts
 use Rattle.arr_import.specs.Window.{Window, item_at, items_of}
-use Rattle.layout_rules.specs.Values.{each, value_at}
+use Rattle.layout_rules.specs.promise.Values.{each, value_at}
 use Rattle.union_cols.proofs.Numbering.{get_or-each}
 use Rattle.run_ends.specs.RunAnswers.{FailsIf, IsRunsFault, found_of, named}
-use Rattle.run_ends.specs.RunRules.{runs_fault}
-use Rattle.run_ends.specs.RunSchemas as found
-use Rattle.run_ends.specs.RunSchemas.{RunsOf}
-use Rattle.run_ends.specs.Runs.{RunTree, run_values}
+use Rattle.run_ends.specs.promise.RunRules.{runs_fault}
+use Rattle.run_ends.specs.promise.RunSchemas as found
+use Rattle.run_ends.specs.promise.RunSchemas.{RunsOf}
+use Rattle.run_ends.specs.promise.Runs.{RunTree, run_values}
 use Rattle.run_ends.specs.declared.rule.RunsFault.{RunsFault}
 use Rattle.run_ends.specs.declared.schema_fault.RunsSchemaFault.{RunsSchemaFault}
 use Rattle.run_ends.specs.declared.schema_fault.RunsSchemaFault.TheVariants as faults
-use Rattle.schema_check.specs.Schemas.{TypedOf}
+use Rattle.schema_check.specs.promise.Schemas.{TypedOf}
 use Rattle.schema_check.specs.declared.schema.SchemaFault.TheVariants as schemas
 use Rattle.tree_check.specs.Checks.{array_refused}
 use Rattle.tree_check.specs.declared.fault.CheckFault.{CheckFault}
-use Rattle.data_types.specs.ValueTexts.{lines_text, value_line}
+use Rattle.data_types.specs.promise.ValueTexts.{lines_text, value_line}
 use Rattle.value_text.proofs.Parts.{lines-more}
 use Rattle.value_text.specs.Lengths.{capped}
-use Rattle.tree_task.specs.FlatAnswer.{FlatAnswer, flat_unless}
+use Rattle.tree_task.specs.promise.FlatAnswer.{FlatAnswer, flat_unless}
 use Rattle.tree_task.specs.Refusals.{fault_of_check}
 use Rattle.tree_task.specs.RunLines.{Reaches}
-use Rattle.tree_task.specs.RunRefusals.{fault_of_runs_schema, runs_fault_told}
-use Rattle.tree_task.specs.RunsAnswer.{RunsAnswer, runs_of_array}
-use Rattle.tree_task.specs.TextOrFault.{Fault, Text}
+use Rattle.tree_task.specs.promise.RunRefusals.{runs_fault_told}
+use Rattle.tree_task.specs.RunRefusals.{fault_of_runs_schema}
+use Rattle.tree_task.specs.promise.RunsAnswer.{RunsAnswer, runs_of_array}
+use Rattle.tree_task.specs.promise.TextOrFault.{Fault, Text}
 use Rattle.tree_task.specs.declared.fault.TreeRunFault.{TreeRunFault}
 use Rattle.tree_task.specs.declared.fault.TreeRunFault.TheVariants as run
 use Rattle.tree_task.proofs.Coming.{IsRefused}

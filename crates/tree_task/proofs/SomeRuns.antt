@@ -7,16 +7,18 @@ use Rattle.std.specs.Str.{bytes_eq}
 use Rattle.std.proofs.lemmas.Bool.{cases_eq}
 use Rattle.std.proofs.lemmas.Slice.Eq.{bytes_eq-Decides}
 use Rattle.data_types.specs.declared.kind.DataType.TheVariants as kinds
-use Rattle.data_types.specs.KindTrees.{KindTree}
-use Rattle.raw_schema.specs.Members.{SchemaMembers, SchemaTree}
-use Rattle.root_check.specs.Schemas.{KidFault, KidsRead, OwnSchemaReads}
+use Rattle.data_types.specs.promise.KindTrees.{KindTree}
+use Rattle.raw_schema.specs.promise.Members.{SchemaMembers, SchemaTree}
+use Rattle.root_check.specs.promise.Schemas.{KidFault, OwnSchemaReads}
+use Rattle.root_check.specs.Schemas.{KidsRead}
 use Rattle.root_check.specs.declared.own_schema.OwnSchemaFault.{OwnSchemaFault}
-use Rattle.run_ends.specs.RunSchemas.{ArePlainRuns, IsReleased, IsRuns, RunsReads, SchemaFound}
-use Rattle.run_ends.specs.RunSchemas as found
-use Rattle.run_ends.specs.Runs.{IsEnds, RunTree}
-use Rattle.schema_check.specs.Schemas.{TypedOf}
-use Rattle.tree_model.specs.Tree.{Released, Live, Trees, MaybeTree, absent, children_of, dictionary_of}
-use Rattle.tree_text.specs.TreeText.{SchemaFits}
+use Rattle.run_ends.specs.promise.RunSchemas.{ArePlainRuns, IsReleased, IsRuns, RunsReads, SchemaFound}
+use Rattle.run_ends.specs.promise.RunSchemas as found
+use Rattle.run_ends.specs.promise.Runs.{IsEnds, RunTree}
+use Rattle.schema_check.specs.promise.Schemas.{TypedOf}
+use Rattle.tree_model.specs.promise.TreeData.{Released, Live, Trees, MaybeTree, absent}
+use Rattle.tree_model.specs.promise.TreeParts.{children_of, dictionary_of}
+use Rattle.tree_text.specs.promise.TreeText.{SchemaFits}
 use Rattle.tree_task.proofs.SomeUnion.{Kids, SomeKinds, SomeMetadata, own-parts, some-kids}
 
 -- ---- what is decided

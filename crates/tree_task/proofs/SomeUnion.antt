@@ -2,20 +2,23 @@
 use Rattle.std.proofs.Common.{◌≡◌, ◌⊎◌, inl, inr, ℕ, suc, ◌+◌, Bool, List, [], ◌∷◌, length, Option, None, Some, Result, Ok, Err, arith, refl, sym, subst}
 use Rattle.std.specs.Prelude.{IsSome}
 use Rattle.std.proofs.lemmas.Bool.{cases_eq}
-use Rattle.data_types.specs.KindTrees.{KindTree}
-use Rattle.raw_schema.specs.Members.{SchemaMembers, SchemaTree, members_of}
-use Rattle.root_check.specs.Schemas.{KidFault, KidsRead, OwnSchemaReads}
+use Rattle.data_types.specs.promise.KindTrees.{KindTree}
+use Rattle.raw_schema.specs.promise.Members.{SchemaMembers, SchemaTree, members_of}
+use Rattle.root_check.specs.promise.Schemas.{KidFault, OwnSchemaReads}
+use Rattle.root_check.specs.Schemas.{KidsRead}
 use Rattle.root_check.specs.declared.own_schema.OwnSchemaFault.{OwnSchemaFault}
 use Rattle.root_check.specs.declared.own_schema.OwnSchemaFault.TheVariants as parts
-use Rattle.schema_check.specs.SchemaAnswers.{FirstFault, MetaRefused, SchemaReads}
-use Rattle.schema_check.specs.Schemas.{MetaFits}
+use Rattle.schema_check.specs.promise.SchemaAnswers.{FirstFault, MetaRefused, SchemaReads}
+use Rattle.schema_check.specs.promise.Schemas.{MetaFits}
 use Rattle.schema_meta.specs.declared.fault.MetaFault.{MetaFault}
-use Rattle.tree_model.specs.Tree.{Released, Live, Trees, no_trees, more_trees, MaybeTree, children_of, dictionary_of, tree_list}
-use Rattle.tree_text.specs.TreeText.{AllFit, SchemaFits, SchemaNodeFits}
-use Rattle.union_cols.specs.UnionFormats.{FormatReads, UnionFormat}
-use Rattle.union_cols.specs.UnionSchemas.{IsPlainUnion, IsReleased, IsUnion, SchemaFound, UnionReads}
-use Rattle.union_cols.specs.UnionSchemas as found
-use Rattle.union_cols.specs.Unions.{UnionTree}
+use Rattle.tree_model.specs.promise.TreeData.{Released, Live, Trees, no_trees, more_trees, MaybeTree, tree_list}
+use Rattle.tree_model.specs.promise.TreeParts.{children_of, dictionary_of}
+use Rattle.tree_text.specs.promise.TreeText.{AllFit, SchemaFits, SchemaNodeFits}
+use Rattle.union_cols.specs.promise.UnionFormats.{UnionFormat}
+use Rattle.union_cols.specs.UnionFormats.{FormatReads}
+use Rattle.union_cols.specs.promise.UnionSchemas.{IsPlainUnion, IsReleased, IsUnion, SchemaFound, UnionReads}
+use Rattle.union_cols.specs.promise.UnionSchemas as found
+use Rattle.union_cols.specs.promise.Unions.{UnionTree}
 
 abbrev pub SomeFormat : Type 0
 SomeFormat = (text : List ℕ) → (read : Result UnionFormat ℕ) × FormatReads text read

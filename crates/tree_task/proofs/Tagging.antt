@@ -1,19 +1,19 @@
 -- What the tagging of a chunk comes to.
 use Rattle.std.proofs.Common.{◌≡◌, ◌∙◌, ◌⊎◌, ℕ, List, Option, None, Result, Ok, Err, IfOk, IfErr, inl, inr, ap, sym}
-use Rattle.data_types.specs.KindTrees.{KindTree}
-use Rattle.layout_rules.specs.Values.{rows_of}
-use Rattle.raw_array.specs.Members.{ArrayTree}
-use Rattle.raw_schema.specs.Members.{SchemaTree}
+use Rattle.data_types.specs.promise.KindTrees.{KindTree}
+use Rattle.layout_rules.specs.promise.Values.{rows_of}
+use Rattle.raw_array.specs.promise.Members.{ArrayTree}
+use Rattle.raw_schema.specs.promise.Members.{SchemaTree}
 use Rattle.union_cols.specs.TagAnswers.{ChecksAsUnion, named_tag}
-use Rattle.union_cols.specs.Tags.{tagged_items}
-use Rattle.union_cols.specs.UnionSchemas.{SchemaFound, UnionReads}
-use Rattle.union_cols.specs.Unions.{UnionTree, union_items}
+use Rattle.union_cols.specs.promise.Tags.{tagged_items}
+use Rattle.union_cols.specs.promise.UnionSchemas.{SchemaFound, UnionReads}
+use Rattle.union_cols.specs.promise.Unions.{UnionTree, union_items}
 use Rattle.union_cols.specs.declared.tag_fault.TagFault.{TagFault}
 use Rattle.union_cols.specs.declared.tag_fault.TagFault.TheVariants as tags
-use Rattle.tree_task.specs.Answer.{Answer, Fault, Text}
+use Rattle.tree_task.specs.promise.TextOrFault.{Answer, Fault, Text}
 use Rattle.tree_task.specs.Refusals.{fault_of_tag}
-use Rattle.tree_task.specs.TagAnswer.{tags_unless}
-use Rattle.tree_task.specs.UnionAnswer.{UnionAnswer, items_text, union_of_schema, union_unless}
+use Rattle.tree_task.specs.promise.TagAnswer.{tags_unless}
+use Rattle.tree_task.specs.promise.UnionAnswer.{UnionAnswer, items_text, union_of_schema, union_unless}
 use Rattle.tree_task.specs.declared.fault.TreeRunFault.{TreeRunFault}
 use Rattle.tree_task.specs.declared.fault.TreeRunFault.TheVariants as run
 use Rattle.tree_task.proofs.Coming.{IsRefused}

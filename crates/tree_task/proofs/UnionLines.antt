@@ -3,11 +3,11 @@ use Rattle.std.proofs.Common.{◌≡◌, ◌∙◌, ℕ, ◌+◌, List, [], ◌�
 use Rattle.std.proofs.lemmas.Grind.{flat_map-append}
 use Rattle.std.proofs.lemmas.List.{map-append}
 use Rattle.std.specs.List.{flat_map}
-use Rattle.layout_rules.specs.Values.{each}
-use Rattle.data_types.specs.NumberedTexts.{numbered_line}
+use Rattle.layout_rules.specs.promise.Values.{each}
+use Rattle.data_types.specs.promise.NumberedTexts.{numbered_line}
 use Rattle.value_text.proofs.Parts.{each-more}
-use Rattle.union_cols.specs.Unions.{UnionItem}
-use Rattle.tree_task.specs.UnionAnswer.{numbered_item}
+use Rattle.union_cols.specs.promise.Unions.{UnionItem}
+use Rattle.tree_task.specs.promise.UnionAnswer.{numbered_item}
 
 -- the lines of some items
 abbrev pub item_lines : List UnionItem → List ℕ

@@ -1,8 +1,8 @@
 -- The chunks whose lines were gathered, as their rows.
 use Rattle.std.specs.Prelude.{List, map}
-use Rattle.data_types.specs.Table.{Row}
-use Rattle.data_types.specs.TypedView.{typed_of}
-use Rattle.layout_rules.specs.Values.{rows_of}
+use Rattle.data_types.specs.promise.Table.{Row}
+use Rattle.data_types.specs.promise.TypedView.{typed_of}
+use Rattle.layout_rules.specs.promise.Values.{rows_of}
 use Rattle.tree_task.specs.declared.shown.Lines.{Lines}
 
 -- the rows that were shown

@@ -1,9 +1,9 @@
 -- How long the text is of the rows of which the lists in a column are spread out.
 use Rattle.std.specs.Prelude.{ℕ, ◌+◌, ◌-◌, ◌*◌, List, length, map}
-use Rattle.data_types.specs.Table.{Row}
-use Rattle.data_types.specs.ValueTexts.{lines_text}
-use Rattle.list_cols.specs.Nested.{Explode}
-use Rattle.tree_task.specs.ForeignAnswer.{row_value}
+use Rattle.data_types.specs.promise.Table.{Row}
+use Rattle.data_types.specs.promise.ValueTexts.{lines_text}
+use Rattle.list_cols.specs.promise.Nested.{Explode}
+use Rattle.tree_task.specs.promise.ForeignAnswer.{row_value}
 
 abbrev pub exploded_length : ℕ → List Row → ℕ
 exploded_length column rows = length (lines_text (map row_value (Explode column rows)))

@@ -1,13 +1,13 @@
 -- The lines of a column's runs, and how far a walk over run-end encoded items has come.
 use Rattle.std.specs.Prelude.{◌≡◌, ◌<◌, ◌≤◌, ◌+◌, ℕ, List, drop, map}
 use Rattle.std.specs.List.{flat_map}
-use Rattle.data_types.specs.Value.{Value}
-use Rattle.layout_rules.specs.Layout.{items}
-use Rattle.raw_array.specs.Members.{ArrayTree, members_of}
-use Rattle.run_ends.specs.RunCoding.{runs_from}
-use Rattle.run_ends.specs.Runs.{RunTree, run_of}
-use Rattle.data_types.specs.NumberedTexts.{numbered_line}
-use Rattle.tree_task.specs.RunsAnswer.{numbered_run}
+use Rattle.data_types.specs.promise.Value.{Value}
+use Rattle.layout_rules.specs.promise.Layout.{items}
+use Rattle.raw_array.specs.promise.Members.{ArrayTree, members_of}
+use Rattle.run_ends.specs.promise.RunCoding.{runs_from}
+use Rattle.run_ends.specs.promise.Runs.{RunTree, run_of}
+use Rattle.data_types.specs.promise.NumberedTexts.{numbered_line}
+use Rattle.tree_task.specs.promise.RunsAnswer.{numbered_run}
 
 -- those of the runs from an item on
 abbrev pub run_lines : ℕ → List Value → List ℕ

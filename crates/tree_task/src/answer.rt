@@ -1,9 +1,10 @@
 //! The text of a command, made of the bytes of an input.
 ghost use Rattle.std.specs.Prelude.{◌≡◌, ◌+◌, ◌⊎◌, ◌≤◌, IfOk, IfErr, OnOk};
-ghost use Rattle.raw_array.specs.Members.{Cost};
-ghost use Rattle.raw_schema.specs.Members.{Nodes};
+ghost use Rattle.raw_array.specs.promise.Members.{Cost};
+ghost use Rattle.tree_model.specs.promise.TreeCost.{Nodes};
 ghost use Rattle.unit_pass.specs.declared.pass.TheConstants.{CHUNK, ROOM, SUPPLY};
-ghost use Rattle.tree_task.specs.Answer.{CountsCommand, Fault, Makes, Text, TextAnswer, TreesAnswer};
+ghost use Rattle.tree_task.specs.promise.Answer.{CountsCommand, Makes, TextAnswer, TreesAnswer};
+ghost use Rattle.tree_task.specs.promise.TextOrFault.{Fault, Text};
 
 use crate::command::Command;
 use crate::fault::TreeRunFault;

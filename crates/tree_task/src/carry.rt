@@ -1,11 +1,13 @@
 //! What a run does between its words and its lines: it reads, makes the text and writes it.
 ghost use Rattle.std.specs.Prelude.{◌≡◌, ◌≢◌, ◌≤◌, ◌+◌, ◌⊎◌, ◌↔◌, false, None, Some, Ok, Err, IfOk, IfErr, OnOk, length, ℕ, List};
 ghost use Rattle.std.specs.Io.KnownBytes.{IsAtEnd, Keeps};
-ghost use Rattle.edge_io.specs.Edge.{LosesWithin, Rose};
+ghost use Rattle.edge_io.specs.promise.Edge.{LosesWithin, Rose};
 ghost use Rattle.unit_pass.specs.declared.pass.TheConstants.{ROOM};
-ghost use Rattle.tree_task.specs.Answer.{AreBytes, IsTooLong, input_limit};
-ghost use Rattle.tree_task.specs.Faults.{AtWriteFault, cause_of, fault_in, is_write_fault};
-ghost use Rattle.tree_task.specs.Over.{RanOver, ReadFor};
+ghost use Rattle.tree_task.specs.promise.Answer.{AreBytes, input_limit};
+ghost use Rattle.tree_task.specs.Answer.{IsTooLong};
+ghost use Rattle.tree_task.specs.promise.Faults.{AtWriteFault, cause_of, is_write_fault};
+ghost use Rattle.tree_task.specs.Faults.{fault_in};
+ghost use Rattle.tree_task.specs.promise.Over.{RanOver, ReadFor};
 
 use crate::answer::answer_text;
 use crate::command::Command;

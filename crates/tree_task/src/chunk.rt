@@ -1,14 +1,15 @@
 //! Chunks: their kinds, and the lines of one that a command made.
 ghost use Rattle.std.specs.Prelude.{◌≡◌, ◌⊎◌, None, IfOk, IfErr, map};
-ghost use Rattle.data_types.specs.KindTrees.{KindTree, TypedOk};
-ghost use Rattle.data_types.specs.TypedView.{typed_of};
-ghost use Rattle.layout_rules.specs.Values.{rows_of};
-ghost use Rattle.layout_rules.specs.Walk.{ChunkOk, first_chunk_fault};
-ghost use Rattle.schema_check.specs.Schemas.{TypedOf};
-ghost use Rattle.data_types.specs.ValueTexts.{lines_text};
-ghost use Rattle.tree_task.specs.ChunkAnswer.{ChunkAnswer, ChunkCommand};
-ghost use Rattle.tree_task.specs.ForeignAnswer.{row_value};
-ghost use Rattle.tree_task.specs.TextOrFault.{Fault};
+ghost use Rattle.data_types.specs.promise.KindTrees.{KindTree};
+ghost use Rattle.data_types.specs.KindTrees.{TypedOk};
+ghost use Rattle.data_types.specs.promise.TypedView.{typed_of};
+ghost use Rattle.layout_rules.specs.promise.Values.{rows_of};
+ghost use Rattle.layout_rules.specs.promise.Walk.{ChunkOk, first_chunk_fault};
+ghost use Rattle.schema_check.specs.promise.Schemas.{TypedOf};
+ghost use Rattle.data_types.specs.promise.ValueTexts.{lines_text};
+ghost use Rattle.tree_task.specs.promise.ChunkAnswer.{ChunkAnswer, ChunkCommand};
+ghost use Rattle.tree_task.specs.promise.ForeignAnswer.{row_value};
+ghost use Rattle.tree_task.specs.promise.TextOrFault.{Fault};
 
 use crate::fault::TreeRunFault;
 use data_types::Typed;

@@ -1,6 +1,6 @@
 //! The number of a column, as a word spells it.
 ghost use Rattle.std.specs.Prelude.{◌≡◌};
-ghost use Rattle.tree_task.specs.Columns.{begins_number, column_number};
+ghost use Rattle.tree_task.specs.promise.Columns.{begins_number, column_number};
 
 /// The greatest number of a column.
 const MOST_COLUMN: u32 = 1023;

@@ -1,6 +1,6 @@
 //! What is written of a fault. The line takes no memory.
 ghost use Rattle.std.specs.Prelude.{◌≡◌, Some};
-ghost use Rattle.tree_task.specs.Diagnostics.{Took, status_line};
+ghost use Rattle.tree_task.specs.promise.Diagnostics.{Took, status_line};
 
 use crate::fault::TreeRunFault;
 use edge_io::{Sink, WriteFault, write_all};

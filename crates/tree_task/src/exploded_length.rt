@@ -3,17 +3,18 @@ ghost use Rattle.std.specs.Prelude.{◌≡◌, ◌+◌, ◌<◌, ◌≤◌, ◌^
 ghost use Rattle.arr_import.specs.Cols.{window_of};
 ghost use Rattle.arr_import.specs.Window.{IsStruct, item_at};
 ghost use Rattle.data_types.specs.KindTrees.{TypedOk};
-ghost use Rattle.data_types.specs.Storage.{storage_of as storage_is};
-ghost use Rattle.data_types.specs.TypedView.{kids_of, kind_of, typed_of};
+ghost use Rattle.data_types.specs.promise.Storage.{storage_of as storage_is};
+ghost use Rattle.data_types.specs.promise.TypedView.{typed_of};
+ghost use Rattle.data_types.specs.TypedView.{kids_of, kind_of};
 ghost use Rattle.data_types.specs.declared.storage.Storage.TheVariants as storages;
 ghost use Rattle.data_types.specs.ValueTexts.{text_limit};
-ghost use Rattle.layout_rules.specs.Values.{rows_of, tree_items};
-ghost use Rattle.layout_rules.specs.Walk.{ChunkOk, LayoutOk};
-ghost use Rattle.list_cols.specs.Faults.{most_columns, most_named};
-ghost use Rattle.list_cols.specs.Nested.{Explode, items_in};
+ghost use Rattle.layout_rules.specs.promise.Values.{rows_of, tree_items};
+ghost use Rattle.layout_rules.specs.promise.Walk.{ChunkOk, LayoutOk};
+ghost use Rattle.list_cols.specs.promise.Faults.{most_columns, most_named};
+ghost use Rattle.list_cols.specs.promise.Nested.{Explode, items_in};
 ghost use Rattle.list_cols.specs.Spreading.{list_at};
 ghost use Rattle.tree_task.specs.NewLengths.{exploded_length, most_lines};
-ghost use Rattle.tree_model.specs.Tree.{children_of};
+ghost use Rattle.tree_model.specs.promise.TreeParts.{children_of};
 ghost use Rattle.value_text.specs.Lengths.{AreSums, TellsKids};
 
 use arr_import::{Col, ValueRef};

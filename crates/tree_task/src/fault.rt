@@ -1,6 +1,7 @@
 //! The fault of a run: why it wrote no text, or not all of it.
 ghost use Rattle.std.specs.Prelude.{◌≡◌};
-ghost use Rattle.tree_task.specs.Refusals.{fault_of_union_schema, rule_told};
+ghost use Rattle.tree_task.specs.promise.Refusals.{rule_told};
+ghost use Rattle.tree_task.specs.Refusals.{fault_of_union_schema};
 ghost use Rattle.union_cols.specs.UnionAnswers.{rule_of};
 ghost use Rattle.union_cols.specs.declared.schema_fault.UnionSchemaFault.TheVariants as unions;
 
@@ -162,7 +163,7 @@ fn cleared(rule: UnionRule) -> UnionRule
 
 impl From<UnionFault> for TreeRunFault {
     ghost use Rattle.std.specs.Prelude.{◌≡◌};
-    ghost use Rattle.tree_task.specs.Refusals.{union_fault_told};
+    ghost use Rattle.tree_task.specs.promise.Refusals.{union_fault_told};
     ghost use Rattle.tree_task.specs.declared.fault.TreeRunFault.TheVariants as run;
     ghost use Rattle.union_cols.specs.UnionAnswers.{found_of};
 

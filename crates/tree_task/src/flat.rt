@@ -1,21 +1,22 @@
 //! The items of a run-end encoded array.
 ghost use Rattle.std.specs.Prelude.{◌≡◌, ◌<◌, ◌-◌, ◌^◌, ◌++◌, ◌⊎◌, ℕ, IfOk, IfErr, OnOk, length};
 ghost use Rattle.std.specs.List.{flat_map};
-ghost use Rattle.layout_rules.specs.Layout.{items};
-ghost use Rattle.data_types.specs.TypedView.{typed_of};
-ghost use Rattle.layout_rules.specs.Values.{each, tree_items, value_at};
-ghost use Rattle.layout_rules.specs.Walk.{LayoutOk};
-ghost use Rattle.raw_array.specs.Members.{members_of};
+ghost use Rattle.layout_rules.specs.promise.Layout.{items};
+ghost use Rattle.data_types.specs.promise.TypedView.{typed_of};
+ghost use Rattle.layout_rules.specs.promise.Values.{each, tree_items, value_at};
+ghost use Rattle.layout_rules.specs.promise.Walk.{LayoutOk};
+ghost use Rattle.raw_array.specs.promise.Members.{members_of};
 ghost use Rattle.run_ends.specs.RunAnswers.{runs_of};
 ghost use Rattle.run_ends.specs.RunCols.{array_in, kinds_in};
 ghost use Rattle.run_ends.specs.RunRules.{RunsOk};
-ghost use Rattle.run_ends.specs.Runs.{RunTypedOk, run_of, run_value, run_values};
-ghost use Rattle.tree_model.specs.Tree.{child_at, children_of};
+ghost use Rattle.run_ends.specs.promise.Runs.{run_of, run_value, run_values};
+ghost use Rattle.run_ends.specs.Runs.{RunTypedOk};
+ghost use Rattle.tree_model.specs.promise.TreeParts.{child_at, children_of};
 ghost use Rattle.value_text.specs.Lengths.{Tells, capped};
-ghost use Rattle.data_types.specs.ValueTexts.{lines_text, value_line};
-ghost use Rattle.tree_task.specs.FlatAnswer.{FlatAnswer};
+ghost use Rattle.data_types.specs.promise.ValueTexts.{lines_text, value_line};
+ghost use Rattle.tree_task.specs.promise.FlatAnswer.{FlatAnswer};
 ghost use Rattle.tree_task.specs.RunLines.{Reaches};
-ghost use Rattle.tree_task.specs.TextOrFault.{Fault, Text};
+ghost use Rattle.tree_task.specs.promise.TextOrFault.{Fault, Text};
 
 use crate::fault::TreeRunFault;
 use raw_array::RawArray;

@@ -1,16 +1,17 @@
 //! The rows of a chunk that a foreign producer owns.
 ghost use Rattle.std.specs.Prelude.{◌≡◌, ◌≢◌, ◌+◌, ◌⊎◌, ◌≤◌, [], ◌∷◌, None, Some, codes, IfOk, IfErr, OnErr, OnOk, MatchResult};
 ghost use Rattle.data_types.specs.KindTrees.{TypedOk};
-ghost use Rattle.data_types.specs.TypedView.{typed_of};
-ghost use Rattle.layout_rules.specs.Walk.{first_chunk_fault};
-ghost use Rattle.raw_array.specs.Members.{Cost};
-ghost use Rattle.raw_schema.specs.Members.{Nodes};
-ghost use Rattle.tree_model.specs.Tree.{IsLive, Released};
+ghost use Rattle.data_types.specs.promise.TypedView.{typed_of};
+ghost use Rattle.layout_rules.specs.promise.Walk.{first_chunk_fault};
+ghost use Rattle.raw_array.specs.promise.Members.{Cost};
+ghost use Rattle.tree_model.specs.promise.TreeCost.{Nodes};
+ghost use Rattle.tree_model.specs.promise.TreeParts.{IsLive};
+ghost use Rattle.tree_model.specs.promise.TreeData.{Released};
 ghost use Rattle.foreign_array.specs.Kept.{tree_in};
-ghost use Rattle.unit_pass.specs.Tally.{risen};
+ghost use Rattle.unit_pass.specs.promise.Tally.{risen};
 ghost use Rattle.unit_pass.specs.declared.pass.TheConstants.{SUPPLY};
-ghost use Rattle.tree_task.specs.ForeignAnswer.{ForeignAnswer, chunk_unless};
-ghost use Rattle.tree_task.specs.TextOrFault.{Fault, Text};
+ghost use Rattle.tree_task.specs.promise.ForeignAnswer.{ForeignAnswer, chunk_unless};
+ghost use Rattle.tree_task.specs.promise.TextOrFault.{Fault, Text};
 
 use crate::fault::TreeRunFault;
 use crate::gathered::Gathered;

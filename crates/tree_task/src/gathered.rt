@@ -1,12 +1,12 @@
 //! The texts of chunks that are shown one after another.
 ghost use Rattle.std.specs.Prelude.{◌≡◌, [], ◌∷◌, IfOk, List, length, map};
-ghost use Rattle.data_types.specs.Table.{Row};
+ghost use Rattle.data_types.specs.promise.Table.{Row};
 ghost use Rattle.data_types.specs.KindTrees.{TypedOk};
-ghost use Rattle.data_types.specs.TypedView.{typed_of};
-ghost use Rattle.layout_rules.specs.Values.{rows_of};
-ghost use Rattle.layout_rules.specs.Walk.{ChunkOk};
-ghost use Rattle.data_types.specs.ValueTexts.{lines_text};
-ghost use Rattle.tree_task.specs.ForeignAnswer.{row_value};
+ghost use Rattle.data_types.specs.promise.TypedView.{typed_of};
+ghost use Rattle.layout_rules.specs.promise.Values.{rows_of};
+ghost use Rattle.layout_rules.specs.promise.Walk.{ChunkOk};
+ghost use Rattle.data_types.specs.promise.ValueTexts.{lines_text};
+ghost use Rattle.tree_task.specs.promise.ForeignAnswer.{row_value};
 ghost use Rattle.tree_task.specs.Gathered.{shown_in, tables_in};
 
 use crate::shown::Lines;

@@ -1,7 +1,8 @@
 //! What holds of the answers of runs. The calls do nothing.
 ghost use Rattle.std.specs.Prelude.{◌≡◌, ℕ, List, Option, true, false};
-ghost use Rattle.tree_task.specs.Answer.{Answer, Fault, IsAnswerTo};
-ghost use Rattle.tree_task.specs.Faults.{has_memory_inside, is_decided};
+ghost use Rattle.tree_task.specs.promise.TextOrFault.{Answer, Fault};
+ghost use Rattle.tree_task.specs.promise.Answer.{IsAnswerTo};
+ghost use Rattle.tree_task.specs.promise.Faults.{has_memory_inside, is_decided};
 ghost use Rattle.tree_task.specs.declared.command.Command.{Command as ACommand};
 ghost use Rattle.tree_task.specs.declared.fault.TreeRunFault.{TreeRunFault as AFault};
 

@@ -1,21 +1,22 @@
 //! The rows of a chunk of which the lists in a column are spread out.
 ghost use Rattle.std.specs.Prelude.{◌≡◌, ◌+◌, ◌⊎◌, ◌<◌, ◌≤◌, None, IfOk, IfErr, IfSome, OnOk, List, length};
-ghost use Rattle.data_types.specs.Table.{Row};
-ghost use Rattle.data_types.specs.KindTrees.{KindTree, TypedOk};
-ghost use Rattle.data_types.specs.TypedView.{typed_of};
-ghost use Rattle.layout_rules.specs.Values.{rows_of};
-ghost use Rattle.layout_rules.specs.Walk.{ChunkOk, first_chunk_fault};
-ghost use Rattle.list_cols.specs.Exploded.{exploded_blocks};
-ghost use Rattle.list_cols.specs.Faults.{most_columns};
-ghost use Rattle.raw_array.specs.Members.{Cost};
-ghost use Rattle.raw_schema.specs.Members.{Nodes};
-ghost use Rattle.schema_check.specs.Schemas.{TypedOf};
-ghost use Rattle.tree_model.specs.Tree.{children_of};
-ghost use Rattle.unit_pass.specs.Tally.{risen};
+ghost use Rattle.data_types.specs.promise.Table.{Row};
+ghost use Rattle.data_types.specs.promise.KindTrees.{KindTree};
+ghost use Rattle.data_types.specs.KindTrees.{TypedOk};
+ghost use Rattle.data_types.specs.promise.TypedView.{typed_of};
+ghost use Rattle.layout_rules.specs.promise.Values.{rows_of};
+ghost use Rattle.layout_rules.specs.promise.Walk.{ChunkOk, first_chunk_fault};
+ghost use Rattle.list_cols.specs.promise.Exploded.{exploded_blocks};
+ghost use Rattle.list_cols.specs.promise.Faults.{most_columns};
+ghost use Rattle.raw_array.specs.promise.Members.{Cost};
+ghost use Rattle.tree_model.specs.promise.TreeCost.{Nodes};
+ghost use Rattle.schema_check.specs.promise.Schemas.{TypedOf};
+ghost use Rattle.tree_model.specs.promise.TreeParts.{children_of};
+ghost use Rattle.unit_pass.specs.promise.Tally.{risen};
 ghost use Rattle.unit_pass.specs.declared.pass.TheConstants.{CHUNK, SUPPLY};
-ghost use Rattle.tree_task.specs.ChunkAnswer.{ChunkAnswer};
-ghost use Rattle.tree_task.specs.ListsAnswer.{ExplodeAnswer, column_fault, exploded, answer_of_column};
-ghost use Rattle.tree_task.specs.TextOrFault.{Answer, Fault, Text};
+ghost use Rattle.tree_task.specs.promise.ChunkAnswer.{ChunkAnswer};
+ghost use Rattle.tree_task.specs.promise.ListsAnswer.{ExplodeAnswer, column_fault, exploded, answer_of_column};
+ghost use Rattle.tree_task.specs.promise.TextOrFault.{Answer, Fault, Text};
 
 use crate::chunk::{chunk_kinds, chunk_lines};
 use crate::exploded_length::is_exploded_too_long;

@@ -1,19 +1,20 @@
 //! The rows of a chunk, grouped by the values of a column.
 ghost use Rattle.std.specs.Prelude.{◌≡◌, ◌+◌, ◌-◌, ◌*◌, ◌⊎◌, ◌<◌, ◌≤◌, ℕ, IfOk, IfErr, IfSome, OnOk, length};
-ghost use Rattle.data_types.specs.KindTrees.{KindTree, TypedOk};
-ghost use Rattle.data_types.specs.TypedView.{typed_of};
-ghost use Rattle.layout_rules.specs.Values.{rows_of};
-ghost use Rattle.layout_rules.specs.Walk.{ChunkOk};
-ghost use Rattle.list_cols.specs.Faults.{most_columns};
-ghost use Rattle.list_cols.specs.NestedTables.{nested_blocks};
-ghost use Rattle.raw_array.specs.Members.{Cost};
-ghost use Rattle.raw_schema.specs.Members.{Nodes};
-ghost use Rattle.schema_check.specs.Schemas.{TypedOf};
-ghost use Rattle.tree_model.specs.Tree.{children_of};
-ghost use Rattle.unit_pass.specs.Tally.{risen};
+ghost use Rattle.data_types.specs.promise.KindTrees.{KindTree};
+ghost use Rattle.data_types.specs.KindTrees.{TypedOk};
+ghost use Rattle.data_types.specs.promise.TypedView.{typed_of};
+ghost use Rattle.layout_rules.specs.promise.Values.{rows_of};
+ghost use Rattle.layout_rules.specs.promise.Walk.{ChunkOk};
+ghost use Rattle.list_cols.specs.promise.Faults.{most_columns};
+ghost use Rattle.list_cols.specs.promise.NestedTables.{nested_blocks};
+ghost use Rattle.raw_array.specs.promise.Members.{Cost};
+ghost use Rattle.tree_model.specs.promise.TreeCost.{Nodes};
+ghost use Rattle.schema_check.specs.promise.Schemas.{TypedOf};
+ghost use Rattle.tree_model.specs.promise.TreeParts.{children_of};
+ghost use Rattle.unit_pass.specs.promise.Tally.{risen};
 ghost use Rattle.unit_pass.specs.declared.pass.TheConstants.{CHUNK, SUPPLY};
-ghost use Rattle.tree_task.specs.ListsAnswer.{NestAnswer, nested};
-ghost use Rattle.tree_task.specs.TextOrFault.{Fault, Text};
+ghost use Rattle.tree_task.specs.promise.ListsAnswer.{NestAnswer, nested};
+ghost use Rattle.tree_task.specs.promise.TextOrFault.{Fault, Text};
 
 use crate::chunk::chunk_lines;
 use crate::fault::TreeRunFault;

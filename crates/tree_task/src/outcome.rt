@@ -1,6 +1,7 @@
 //! The outcome of a run: its fault, its exit status and its audit.
 ghost use Rattle.std.specs.Prelude.{◌≡◌, Some};
-ghost use Rattle.tree_task.specs.Faults.{fault_in, status_of};
+ghost use Rattle.tree_task.specs.promise.Faults.{status_of};
+ghost use Rattle.tree_task.specs.Faults.{fault_in};
 
 use crate::fault::TreeRunFault;
 use unit_pass::Audit;

@@ -1,7 +1,7 @@
 //! The rows of a tree of any kind.
 ghost use Rattle.std.specs.Prelude.{◌≡◌, ◌⊎◌, IfOk, IfErr};
-ghost use Rattle.tree_task.specs.RowsAnswer.{RowsAnswer};
-ghost use Rattle.tree_task.specs.TextOrFault.{Fault, Text};
+ghost use Rattle.tree_task.specs.promise.RowsAnswer.{RowsAnswer};
+ghost use Rattle.tree_task.specs.promise.TextOrFault.{Fault, Text};
 
 use crate::fault::TreeRunFault;
 use layout_check::check_array;

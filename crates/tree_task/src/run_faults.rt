@@ -2,7 +2,8 @@
 ghost use Rattle.std.specs.Prelude.{◌≡◌};
 ghost use Rattle.run_ends.specs.RunAnswers.{rule_of};
 ghost use Rattle.run_ends.specs.declared.schema_fault.RunsSchemaFault.TheVariants as runs;
-ghost use Rattle.tree_task.specs.RunRefusals.{fault_of_runs_schema, runs_rule_told};
+ghost use Rattle.tree_task.specs.promise.RunRefusals.{runs_rule_told};
+ghost use Rattle.tree_task.specs.RunRefusals.{fault_of_runs_schema};
 
 use crate::fault::TreeRunFault;
 use layout_rules::LayoutFault;
@@ -66,7 +67,7 @@ fn cleared(rule: RunsRule) -> RunsRule
 impl From<RunsFault> for TreeRunFault {
     ghost use Rattle.std.specs.Prelude.{◌≡◌};
     ghost use Rattle.run_ends.specs.RunAnswers.{found_of};
-    ghost use Rattle.tree_task.specs.RunRefusals.{runs_fault_told};
+    ghost use Rattle.tree_task.specs.promise.RunRefusals.{runs_fault_told};
     ghost use Rattle.tree_task.specs.declared.fault.TreeRunFault.TheVariants as run;
 
     ghost from_gives = { λ fault given. given ≡ run.Runs (runs_fault_told (found_of fault)) };

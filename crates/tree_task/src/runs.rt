@@ -2,17 +2,17 @@
 ghost use Rattle.std.specs.Prelude.{◌≡◌, ◌<◌, ◌≤◌, ◌^◌, ◌++◌, ◌⊎◌, get_or, length, IfOk, IfErr, OnOk};
 ghost use Rattle.arr_import.specs.Cols.{window_of};
 ghost use Rattle.arr_import.specs.Window.{items_of};
-ghost use Rattle.data_types.specs.Value.Value.{Null};
+ghost use Rattle.data_types.specs.promise.Value.Value.{Null};
 ghost use Rattle.data_types.specs.KindTrees.{TypedOk};
-ghost use Rattle.data_types.specs.TypedView.{typed_of};
-ghost use Rattle.layout_rules.specs.Values.{tree_items, values_of};
-ghost use Rattle.layout_rules.specs.Walk.{LayoutOk};
+ghost use Rattle.data_types.specs.promise.TypedView.{typed_of};
+ghost use Rattle.layout_rules.specs.promise.Values.{tree_items, values_of};
+ghost use Rattle.layout_rules.specs.promise.Walk.{LayoutOk};
 ghost use Rattle.run_ends.specs.ColumnRuns.{values_in};
 ghost use Rattle.run_ends.specs.RunCoding.{IsRun};
-ghost use Rattle.data_types.specs.NumberedTexts.{numbered_line};
+ghost use Rattle.data_types.specs.promise.NumberedTexts.{numbered_line};
 ghost use Rattle.tree_task.specs.RunLines.{run_lines};
-ghost use Rattle.tree_task.specs.RunsAnswer.{RunsAnswer, runs_of_column, runs_text};
-ghost use Rattle.tree_task.specs.TextOrFault.{Fault, Text};
+ghost use Rattle.tree_task.specs.promise.RunsAnswer.{RunsAnswer, runs_of_column, runs_text};
+ghost use Rattle.tree_task.specs.promise.TextOrFault.{Fault, Text};
 
 use crate::fault::TreeRunFault;
 use arr_import::Col;

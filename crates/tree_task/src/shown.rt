@@ -1,9 +1,9 @@
 //! The lines of a chunk that was shown.
 ghost use Rattle.std.specs.Prelude.{◌≡◌, map};
-ghost use Rattle.data_types.specs.TypedView.{typed_of};
-ghost use Rattle.layout_rules.specs.Values.{rows_of};
-ghost use Rattle.data_types.specs.ValueTexts.{lines_text};
-ghost use Rattle.tree_task.specs.ForeignAnswer.{row_value};
+ghost use Rattle.data_types.specs.promise.TypedView.{typed_of};
+ghost use Rattle.layout_rules.specs.promise.Values.{rows_of};
+ghost use Rattle.data_types.specs.promise.ValueTexts.{lines_text};
+ghost use Rattle.tree_task.specs.promise.ForeignAnswer.{row_value};
 
 use data_types::Typed;
 use raw_array::RawArray;

@@ -1,17 +1,17 @@
 //! The columns of a chunk, tagged: the children of a union.
 ghost use Rattle.std.specs.Prelude.{◌≡◌, ◌+◌, ◌⊎◌, ◌≤◌, ◌≤ℤ◌, pos, IfOk, IfErr, OnOk};
 ghost use Rattle.data_types.specs.KindTrees.{TypedOk};
-ghost use Rattle.data_types.specs.TypedView.{typed_of};
-ghost use Rattle.layout_rules.specs.Walk.{ChunkOk};
-ghost use Rattle.raw_array.specs.Members.{Cost, members_of};
-ghost use Rattle.tree_model.specs.Tree.{IsLive};
-ghost use Rattle.raw_schema.specs.Members.{Nodes};
-ghost use Rattle.schema_check.specs.Schemas.{TypedOf};
-ghost use Rattle.union_cols.specs.Tags.{tag_blocks};
-ghost use Rattle.unit_pass.specs.Tally.{risen};
+ghost use Rattle.data_types.specs.promise.TypedView.{typed_of};
+ghost use Rattle.layout_rules.specs.promise.Walk.{ChunkOk};
+ghost use Rattle.raw_array.specs.promise.Members.{Cost, members_of};
+ghost use Rattle.tree_model.specs.promise.TreeParts.{IsLive};
+ghost use Rattle.tree_model.specs.promise.TreeCost.{Nodes};
+ghost use Rattle.schema_check.specs.promise.Schemas.{TypedOf};
+ghost use Rattle.union_cols.specs.promise.Tags.{tag_blocks};
+ghost use Rattle.unit_pass.specs.promise.Tally.{risen};
 ghost use Rattle.unit_pass.specs.declared.pass.TheConstants.{SUPPLY};
-ghost use Rattle.tree_task.specs.TagAnswer.{TagAnswer, tags_of_columns};
-ghost use Rattle.tree_task.specs.TextOrFault.{Fault, Text};
+ghost use Rattle.tree_task.specs.promise.TagAnswer.{TagAnswer, tags_of_columns};
+ghost use Rattle.tree_task.specs.promise.TextOrFault.{Fault, Text};
 
 use crate::chunk::chunk_kinds;
 use crate::fault::TreeRunFault;

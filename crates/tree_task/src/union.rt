@@ -1,15 +1,16 @@
 //! The items of a union.
 ghost use Rattle.std.specs.Prelude.{◌≡◌, ◌<◌, ◌^◌, ◌++◌, ◌⊎◌, IfOk, IfErr, OnOk, map};
 ghost use Rattle.std.specs.List.{flat_map};
-ghost use Rattle.layout_rules.specs.Layout.{items};
-ghost use Rattle.raw_array.specs.Members.{members_of};
+ghost use Rattle.layout_rules.specs.promise.Layout.{items};
+ghost use Rattle.raw_array.specs.promise.Members.{members_of};
 ghost use Rattle.union_cols.specs.UnionCols.{array_in, kinds_in};
 ghost use Rattle.union_cols.specs.UnionAnswers.{union_of};
 ghost use Rattle.union_cols.specs.UnionRules.{UnionOk};
-ghost use Rattle.union_cols.specs.Unions.{UnionTypedOk, union_item, union_items};
-ghost use Rattle.data_types.specs.NumberedTexts.{numbered_line};
-ghost use Rattle.tree_task.specs.TextOrFault.{Fault, Text};
-ghost use Rattle.tree_task.specs.UnionAnswer.{UnionAnswer, items_text, numbered_item};
+ghost use Rattle.union_cols.specs.promise.Unions.{union_item, union_items};
+ghost use Rattle.union_cols.specs.Unions.{UnionTypedOk};
+ghost use Rattle.data_types.specs.promise.NumberedTexts.{numbered_line};
+ghost use Rattle.tree_task.specs.promise.TextOrFault.{Fault, Text};
+ghost use Rattle.tree_task.specs.promise.UnionAnswer.{UnionAnswer, items_text, numbered_item};
 
 use crate::fault::TreeRunFault;
 use crate::union_length::union_length;

@@ -1,14 +1,15 @@
 //! How long the text of a union's items is, found before any text is made.
 ghost use Rattle.std.specs.Prelude.{◌≡◌, ◌<◌, ◌^◌, IfOk, length};
-ghost use Rattle.layout_rules.specs.Layout.{items};
-ghost use Rattle.raw_array.specs.Members.{members_of};
+ghost use Rattle.layout_rules.specs.promise.Layout.{items};
+ghost use Rattle.raw_array.specs.promise.Members.{members_of};
 ghost use Rattle.union_cols.specs.UnionAnswers.{union_of};
 ghost use Rattle.union_cols.specs.UnionCols.{array_in, kinds_in};
 ghost use Rattle.union_cols.specs.UnionRules.{UnionOk};
-ghost use Rattle.union_cols.specs.Unions.{UnionTypedOk, union_item, union_items, union_value};
+ghost use Rattle.union_cols.specs.promise.Unions.{union_item, union_items, union_value};
+ghost use Rattle.union_cols.specs.Unions.{UnionTypedOk};
 ghost use Rattle.value_text.specs.Lengths.{TellsKids, capped, text_length};
-ghost use Rattle.data_types.specs.NumberedTexts.{numbered_line};
-ghost use Rattle.tree_task.specs.UnionAnswer.{items_text, numbered_item};
+ghost use Rattle.data_types.specs.promise.NumberedTexts.{numbered_line};
+ghost use Rattle.tree_task.specs.promise.UnionAnswer.{items_text, numbered_item};
 
 use crate::union::count_items;
 use raw_array::RawArray;

@@ -5,15 +5,18 @@ use Rattle.std.proofs.lemmas.Int.{ints}
 use Rattle.std.proofs.lemmas.List.Elements.{All-from_recursion}
 use Rattle.std.proofs.lemmas.Bool.{lt-ltb}
 use Rattle.std.specs.Prelude.{◌≤ℤ◌, if◌then◌else◌, nat_lt}
-use Rattle.tree_model.specs.Tree.{IsLive, Released, Live}
-use Rattle.raw_array.specs.Members.{ArrayTree, members_of}
-use Rattle.layout_rules.specs.Layout.{natural}
-use Rattle.layout_rules.specs.Values.{tree_items}
-use Rattle.data_types.specs.FieldText.{Form, form_of}
+use Rattle.tree_model.specs.promise.TreeParts.{IsLive}
+use Rattle.tree_model.specs.promise.TreeData.{Released, Live}
+use Rattle.raw_array.specs.promise.Members.{ArrayTree, members_of}
+use Rattle.layout_rules.specs.promise.Layout.{natural}
+use Rattle.layout_rules.specs.promise.Values.{tree_items}
+use Rattle.data_types.specs.promise.FieldText.{Form, form_of}
 use Rattle.data_types.specs.Kinds.{KindOk}
-use Rattle.data_types.specs.Value.{Value}
+use Rattle.data_types.specs.promise.Value.{Value}
 use Rattle.data_types.specs.declared.kind.DataType.{DataType}
-use Rattle.col_build.specs.Encoding.{Fits, HasForm, are_bounded, are_within, byte_total, is_by_offsets, is_wide, push_fault}
+use Rattle.col_build.specs.promise.Encoding.{are_within, is_by_offsets, is_wide}
+use Rattle.data_types.specs.promise.Value.{byte_total}
+use Rattle.col_build.specs.Encoding.{Fits, HasForm, are_bounded, push_fault}
 
 within-by : (by_offsets : Bool) (total : ℕ) → total < 2 ^ 31 → (if by_offsets then nat_lt total (2 ^ 31) else true) ≡ true
 within-by true total small = lt-ltb total (2 ^ 31) small

@@ -1,7 +1,9 @@
 //! Arrays of several levels: shared, windowed, taken apart and released, with the units that come back counted.
 ghost use Rattle.std.specs.Prelude.{◌≡◌, ◌+◌, ◌<◌, ◌≤◌, length};
-ghost use Rattle.tree_model.specs.Tree.{IsLive, trees, children_of};
-ghost use Rattle.raw_array.specs.Members.{Cost, cost_of_all, members_of};
+ghost use Rattle.tree_model.specs.promise.TreeParts.{IsLive, children_of};
+ghost use Rattle.tree_model.specs.promise.TreeData.{trees};
+ghost use Rattle.raw_array.specs.promise.Members.{Cost, members_of};
+ghost use Rattle.raw_array.specs.Members.{cost_of_all};
 
 use raw_array::{Acted, ArrayParts, Gone, PartlyMoved, RawArray, ReleaseKind, release_all};
 use std::alloc::Global;

@@ -1,7 +1,7 @@
 //! Columns, dictionaries and a table as arrays, against the layouts that the standard shows.
 ghost use Rattle.std.specs.Prelude.{◌≡◌, ◌≤ℤ◌, pos, List, [], ◌∷◌, Some};
-ghost use Rattle.layout_rules.specs.Layout.{natural};
-ghost use Rattle.data_types.specs.Value.{Value};
+ghost use Rattle.layout_rules.specs.promise.Layout.{natural};
+ghost use Rattle.data_types.specs.promise.Value.{Value};
 ghost use Rattle.data_types.specs.declared.kind.DataType.{DataType};
 ghost use Rattle.col_build.specs.Finished.{IsMade};
 ghost use Rattle.arr_export.specs.ArrayTrees.{HasValues, IsColumn};

@@ -1,7 +1,7 @@
 //! Columns that are taken out of a table. Where an allocation is refused, the table comes back as it was.
 ghost use Rattle.std.specs.Prelude.{◌≡◌, pos};
-ghost use Rattle.tree_model.specs.Tree.{IsLive};
-ghost use Rattle.raw_array.specs.Members.{members_of};
+ghost use Rattle.tree_model.specs.promise.TreeParts.{IsLive};
+ghost use Rattle.raw_array.specs.promise.Members.{members_of};
 
 use arr_move::take_columns;
 use raw_array::RawArray;

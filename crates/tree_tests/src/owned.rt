@@ -1,8 +1,8 @@
 //! An owner that holds a block, and trees that it owns.
 ghost use Rattle.std.specs.Prelude.{◌≡◌, ◌+◌, ◌≤◌};
-ghost use Rattle.tree_model.specs.Tree.{IsLive};
-ghost use Rattle.raw_array.specs.Members.{Cost};
-ghost use Rattle.raw_schema.specs.Members.{Nodes};
+ghost use Rattle.tree_model.specs.promise.TreeParts.{IsLive};
+ghost use Rattle.raw_array.specs.promise.Members.{Cost};
+ghost use Rattle.tree_model.specs.promise.TreeCost.{Nodes};
 ghost use Rattle.unit_pass.specs.declared.pass.TheConstants.{ROOM};
 
 use buf_block::{Hold, make};

@@ -1,7 +1,7 @@
 //! Columns made into runs, and runs into columns: their items, and the faults.
 ghost use Rattle.std.specs.Prelude.{◌≡◌, ◌<◌, ◌^◌};
 ghost use Rattle.data_types.specs.KindTrees.{TypedOk};
-ghost use Rattle.data_types.specs.TypedView.{typed_of};
+ghost use Rattle.data_types.specs.promise.TypedView.{typed_of};
 ghost use Rattle.arr_import.specs.Cols.{window_of};
 
 use crate::made::trees;

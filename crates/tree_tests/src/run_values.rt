@@ -1,7 +1,7 @@
 //! The items of runs, one by one and by a walk, and the runs of a column.
 ghost use Rattle.std.specs.Prelude.{◌<◌, ◌≤◌, length};
-ghost use Rattle.raw_array.specs.Members.{members_of};
-ghost use Rattle.layout_rules.specs.Layout.{items};
+ghost use Rattle.raw_array.specs.promise.Members.{members_of};
+ghost use Rattle.layout_rules.specs.promise.Layout.{items};
 ghost use Rattle.run_ends.specs.RunCols.{array_in};
 ghost use Rattle.run_ends.specs.ColumnRuns.{values_in};
 

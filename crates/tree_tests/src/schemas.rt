@@ -1,7 +1,9 @@
 //! Schemas of several levels whose parts are shared, taken and released, with the units that come back counted.
 ghost use Rattle.std.specs.Prelude.{◌≡◌, ◌+◌, ◌<◌, ◌≤◌, length};
-ghost use Rattle.tree_model.specs.Tree.{IsLive, trees, children_of};
-ghost use Rattle.raw_schema.specs.Members.{Nodes, nodes_of_all};
+ghost use Rattle.tree_model.specs.promise.TreeParts.{IsLive, children_of};
+ghost use Rattle.tree_model.specs.promise.TreeData.{trees};
+ghost use Rattle.tree_model.specs.promise.TreeCost.{Nodes};
+ghost use Rattle.raw_schema.specs.Members.{nodes_of_all};
 
 use crate::arrays::closed;
 use raw_schema::{Acted, Gone, PartlyMovedSchema, RawSchema, release_all};

@@ -4,16 +4,19 @@ use Rattle.std.proofs.Common.{arith, subst, length-append, inl, inr, Result, Ok,
 use Rattle.std.specs.Prelude.{IfOk, IfErr}
 use Rattle.std.specs.Option.{option_map}
 use Rattle.std.proofs.lemmas.Bool.{lt-leb, le-leb, cases_lt}
-use Rattle.tree_model.specs.Tree.{Released, trees, maybe_tree, depth_of_all, depth_of_maybe}
-use Rattle.tree_model.specs.TreeCost.{nodes_of_all, nodes_of_maybe, holds_of_all, holds_of_maybe}
-use Rattle.tree_model.specs.TreeData.{Tree}
-use Rattle.raw_array.specs.Members.{ArrayTree, holds, Cost, cost_of_all, cost_of_maybe}
+use Rattle.tree_model.specs.promise.TreeData.{Released, trees, maybe_tree}
+use Rattle.tree_model.specs.Tree.{depth_of_all, depth_of_maybe}
+use Rattle.tree_model.specs.promise.TreeCost.{holds_of_all, holds_of_maybe}
+use Rattle.tree_model.specs.TreeCost.{nodes_of_all, nodes_of_maybe}
+use Rattle.tree_model.specs.promise.TreeData.{Tree}
+use Rattle.raw_array.specs.promise.Members.{ArrayTree, holds, Cost}
+use Rattle.raw_array.specs.Members.{cost_of_all, cost_of_maybe}
 use Rattle.raw_array.proofs.Buffers.{holds_of-count}
 use Rattle.tree_text.specs.declared.fault.TextFault.{TextFault}
 use Rattle.tree_text.specs.declared.cursor.Cursor.{Cursor}
-use Rattle.tree_text.specs.TreeText.{array_node_lines, released_array, ArrayNodeFits, deepest_level, lines_of_all, array_line, lines_of, ArrayNumbers}
-use Rattle.tree_text.specs.TreeText.{numbers_of, buffer_line, ArrayNumbersFit}
-use Rattle.tree_text.specs.Standing.{Place, AtArray, AtBuffer, read_array_line, next, array_parts}
+use Rattle.tree_text.specs.promise.TreeText.{array_node_lines, released_array, ArrayNodeFits, deepest_level, lines_of_all, array_line, lines_of, ArrayNumbers}
+use Rattle.tree_text.specs.promise.TreeText.{numbers_of, buffer_line, ArrayNumbersFit}
+use Rattle.tree_text.specs.promise.Standing.{Place, AtArray, AtBuffer, read_array_line, next, array_parts}
 use Rattle.tree_text.specs.Cursors.{left, IsCursor, Stops, Between, ArrayRead, ArraysRead, LiveArrayRead, with_buffers, listed}
 use Rattle.tree_text.proofs.LineBack.{ArrayLineIs, array_back}
 use Rattle.tree_text.proofs.Stands.{stands, array_gone, array_stands, array_some}

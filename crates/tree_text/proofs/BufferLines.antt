@@ -12,9 +12,9 @@ use Rattle.std.specs.Str.Parse.{digits_value}
 use Rattle.std.proofs.lemmas.Bool.{cases_Bool, and_parts, false≢true, leb-true, le-leb, lt-ltb, le-ltb}
 use Rattle.std.proofs.lemmas.List.{take-append-drop}
 use Rattle.std.proofs.lemmas.Slice.Eq.{bytes_eq-Decides}
-use Rattle.data_types.specs.FieldText.{hex_bytes, hex_text, last_digits}
-use Rattle.tree_text.specs.TreeText.{AreBytes, AreBytesIf, buffer_text}
-use Rattle.tree_text.specs.Standing.{read_lower_hex, read_buffer_line}
+use Rattle.data_types.specs.promise.FieldText.{hex_bytes, hex_text, last_digits}
+use Rattle.tree_text.specs.promise.TreeText.{AreBytes, AreBytesIf, buffer_text}
+use Rattle.tree_text.specs.promise.Standing.{read_lower_hex, read_buffer_line}
 
 glyph_value : (d : ℕ) → d < 16 → digit_value (digit_glyph false d) ≡ d
 glyph_value d small = grind arith

@@ -14,12 +14,12 @@ use Rattle.std.proofs.lemmas.List.Elements.{All-from_recursion}
 use Rattle.std.proofs.lemmas.List.Splits.{slice_split_none, slice_split_at, join_with_byte-slice_split}
 use Rattle.std.proofs.lemmas.Option.{option_and_then_some}
 use Rattle.std.proofs.lemmas.Slice.Eq.{bytes_eq-Decides}
-use Rattle.data_types.specs.FieldText.{in_range}
-use Rattle.raw_schema.specs.Members.{SchemaMembers}
-use Rattle.tree_text.specs.TreeText.{is_plain, byte_text, token, spaced, schema_line, ArrayNumbers, array_line, AreBytes, AreBytesIf, most_parts}
-use Rattle.tree_text.specs.TreeText.{SchemaNodeFits, ArrayNumbersFit}
-use Rattle.tree_text.specs.Standing.{read_bytes, read_present, read_token, read_number, read_count, at_most, fields, NodeLine, ReleasedLine, LiveLine}
-use Rattle.tree_text.specs.Standing.{read_schema_fields, read_schema_line, read_array_fields, read_array_line}
+use Rattle.data_types.specs.promise.FieldText.{in_range}
+use Rattle.raw_schema.specs.promise.Members.{SchemaMembers}
+use Rattle.tree_text.specs.promise.TreeText.{is_plain, byte_text, token, spaced, schema_line, ArrayNumbers, array_line, AreBytes, AreBytesIf, most_parts}
+use Rattle.tree_text.specs.promise.TreeText.{SchemaNodeFits, ArrayNumbersFit}
+use Rattle.tree_text.specs.promise.Standing.{read_bytes, read_present, read_token, read_number, read_count, at_most, fields, NodeLine, ReleasedLine, LiveLine}
+use Rattle.tree_text.specs.promise.Standing.{read_schema_fields, read_schema_line, read_array_fields, read_array_line}
 use Rattle.tree_text.proofs.NumberTexts.{number_read, number_back}
 use Rattle.tree_text.proofs.LineLaws.{bytes_read, bytes_back}
 

@@ -8,8 +8,8 @@ use Rattle.std.specs.List.{flat_map}
 use Rattle.std.specs.Str.{bytes_eq}
 use Rattle.std.proofs.lemmas.Bool.{cases_Bool, and_parts, ltb-true, lt-ltb, leb-true}
 use Rattle.std.proofs.lemmas.Slice.Eq.{bytes_eq-Decides}
-use Rattle.tree_text.specs.TreeText.{is_plain, byte_text, AreBytes}
-use Rattle.tree_text.specs.Standing.{read_escape, onto, plain, read_bytes}
+use Rattle.tree_text.specs.promise.TreeText.{is_plain, byte_text, AreBytes}
+use Rattle.tree_text.specs.promise.Standing.{read_escape, onto, plain, read_bytes}
 use Rattle.tree_text.proofs.TokenBytes.{read_plain, read_escaped}
 
 -- ---- bytes

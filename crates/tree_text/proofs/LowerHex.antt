@@ -11,8 +11,9 @@ use Rattle.std.proofs.lemmas.Bool.{cases_eq}
 use Rattle.std.proofs.lemmas.List.{length-set, get_or-set_other}
 use Rattle.std.proofs.lemmas.List.Folds.{list_any_at}
 use Rattle.std.proofs.lemmas.Grind.{get_or-set_at}
-use Rattle.data_types.specs.FieldText.{hex_bytes}
-use Rattle.tree_text.specs.Standing.{is_lower_digit, read_lower_hex}
+use Rattle.data_types.specs.promise.FieldText.{hex_bytes}
+use Rattle.tree_text.specs.promise.Standing.{read_lower_hex}
+use Rattle.tree_text.specs.Standing.{is_lower_digit}
 
 -- ---- one digit
 

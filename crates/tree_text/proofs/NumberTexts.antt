@@ -9,8 +9,8 @@ use Rattle.std.specs.Fmt.{decimal, signed_decimal}
 use Rattle.std.proofs.lemmas.Bool.{cases_Bool, and_parts, ltb-true, lt-ltb, ne_eqb}
 use Rattle.std.proofs.lemmas.Fmt.{decimal_is_IsNumeral}
 use Rattle.std.proofs.lemmas.Slice.Eq.{bytes_eq-Decides}
-use Rattle.data_types.specs.FieldText.{in_range}
-use Rattle.tree_text.specs.Standing.{read_number}
+use Rattle.data_types.specs.promise.FieldText.{in_range}
+use Rattle.tree_text.specs.promise.Standing.{read_number}
 
 record NoSign (text : List ℕ) : Type 0 where
   same : without_leading_sign text ≡ text

@@ -5,17 +5,18 @@ use Rattle.std.specs.Prelude.{codes, IfOk, IfErr}
 use Rattle.std.specs.List.{AllByRecursion}
 use Rattle.std.specs.Str.Lines.{lines}
 use Rattle.std.proofs.lemmas.List.{append-nil}
-use Rattle.tree_model.specs.Tree.{Tree, Released, Live, Trees, no_trees, more_trees, MaybeTree, absent, present, tree_list}
-use Rattle.raw_schema.specs.Members.{SchemaMembers, SchemaTree}
-use Rattle.raw_array.specs.Members.{Buffer, ArrayMembers, ArrayTree, bytes_in, whole}
+use Rattle.tree_model.specs.promise.TreeData.{Tree, Released, Live, Trees, no_trees, more_trees, MaybeTree, absent, present, tree_list}
+use Rattle.raw_schema.specs.promise.Members.{SchemaMembers, SchemaTree}
+use Rattle.raw_array.specs.promise.Members.{Buffer, ArrayMembers, ArrayTree, bytes_in, whole}
 use Rattle.tree_text.specs.declared.fault.TextFault.{TextFault}
 use Rattle.tree_text.specs.declared.fault.TextFault.TheVariants.{Line, TooManyLines, NoMemory}
-use Rattle.tree_text.specs.TreeText.{TreeIs, lines_of, lines_of_all, lines_of_maybe, dictionaries, TreeFits, AllFit, MaybeFits, schema_node_lines}
-use Rattle.tree_text.specs.TreeText.{array_node_lines, released_schema, released_array, SchemaNodeFits, ArrayNodeFits, ArrayNumbers, numbers_of, schema_line}
-use Rattle.tree_text.specs.TreeText.{array_line, buffer_line, BufferFits, AreBytesIf}
-use Rattle.tree_text.specs.Standing.{AtFirst, AtSchema, AtArray, NodeLine, ReleasedLine, LiveLine, first_fault, all_places, read_schema_line}
-use Rattle.tree_text.specs.Standing.{read_array_line, read_buffer_line}
-use Rattle.tree_text.specs.Answers.{Reads, Gives}
+use Rattle.tree_text.specs.promise.TreeText.{TreeIs, lines_of, lines_of_all, lines_of_maybe, dictionaries, TreeFits, AllFit, MaybeFits, schema_node_lines}
+use Rattle.tree_text.specs.promise.TreeText.{array_node_lines, released_schema, released_array, SchemaNodeFits, ArrayNodeFits, ArrayNumbers, numbers_of, schema_line}
+use Rattle.tree_text.specs.promise.TreeText.{array_line, buffer_line, BufferFits, AreBytesIf}
+use Rattle.tree_text.specs.promise.Standing.{AtFirst, AtSchema, AtArray, NodeLine, ReleasedLine, LiveLine, first_fault, all_places, read_schema_line}
+use Rattle.tree_text.specs.promise.Standing.{read_array_line, read_buffer_line}
+use Rattle.tree_text.specs.promise.Answers.{Reads}
+use Rattle.tree_text.specs.Answers.{Gives}
 use Rattle.tree_text.proofs.LineBack.{schema_back, array_back}
 use Rattle.tree_text.proofs.BufferLines.{buffer_back}
 use Rattle.tree_text.proofs.Stands.{stands, schema_gone, schema_stands, array_gone, array_stands}

@@ -3,18 +3,21 @@ use Rattle.std.proofs.Common.{◌≡◌, ℕ, suc, zero, ◌+◌, ◌<◌, ◌�
 use Rattle.std.proofs.Common.{append_assoc}
 use Rattle.std.proofs.lemmas.Grind.{flat_map-append}
 use Rattle.std.proofs.lemmas.List.{append-nil}
-use Rattle.tree_model.specs.Tree.{Released, Live, IsLive, trees, children_of}
-use Rattle.raw_array.specs.Members.{ArrayTree, members_of}
+use Rattle.tree_model.specs.promise.TreeData.{Released, Live, trees}
+use Rattle.tree_model.specs.promise.TreeParts.{IsLive, children_of}
+use Rattle.raw_array.specs.promise.Members.{ArrayTree, members_of}
 use Rattle.data_types.specs.declared.typed.Typed.{Typed, out-Typed}
-use Rattle.data_types.specs.TypedView.{typed_of, kind_of}
+use Rattle.data_types.specs.promise.TypedView.{typed_of}
+use Rattle.data_types.specs.TypedView.{kind_of}
 use Rattle.layout_check.specs.NodeView.{live_node}
-use Rattle.layout_rules.specs.Layout.{layout_of}
-use Rattle.layout_rules.specs.Rules.{null_items}
-use Rattle.data_types.specs.KindTrees.{KindTree}
-use Rattle.data_types.specs.Ways.{Steps}
-use Rattle.layout_rules.specs.Walk.{Visit, visits, walks_of, walk_children, nulls_in}
+use Rattle.layout_rules.specs.promise.Layout.{layout_of}
+use Rattle.layout_rules.specs.promise.Rules.{null_items}
+use Rattle.data_types.specs.promise.KindTrees.{KindTree}
+use Rattle.data_types.specs.promise.Ways.{Steps}
+use Rattle.layout_rules.specs.promise.Walk.{Visit, visits, walks_of, walk_children}
+use Rattle.layout_rules.specs.Walk.{nulls_in}
 use Rattle.data_types.proofs.Levels.{typed_out}
-use Rattle.tree_text.specs.Report.{visits_text, visit_text, node_line}
+use Rattle.tree_text.specs.promise.Report.{visits_text, visit_text, node_line}
 use Rattle.tree_text.specs.Below.{children_visits, dictionary_visits}
 
 pub text-append : (xs ys : List Visit) → visits_text (xs ++ ys) ≡ visits_text xs ++ visits_text ys

@@ -4,13 +4,16 @@ use Rattle.std.proofs.Common.{arith, subst, length-append, inl, inr, Result, Ok,
 use Rattle.std.specs.Prelude.{IfOk, IfErr}
 use Rattle.std.specs.Option.{option_map}
 use Rattle.std.proofs.lemmas.Bool.{lt-leb, le-leb, cases_lt}
-use Rattle.tree_model.specs.Tree.{Released, trees, maybe_tree, depth_of_all, depth_of_maybe}
-use Rattle.unit_pass.specs.Tally.{risen}
-use Rattle.raw_schema.specs.Members.{SchemaMembers, SchemaTree, no_holds, Nodes, nodes_of_all, nodes_of_maybe}
+use Rattle.tree_model.specs.promise.TreeData.{Released, trees, maybe_tree}
+use Rattle.tree_model.specs.Tree.{depth_of_all, depth_of_maybe}
+use Rattle.unit_pass.specs.promise.Tally.{risen}
+use Rattle.raw_schema.specs.promise.Members.{SchemaMembers, SchemaTree}
+use Rattle.tree_model.specs.promise.TreeCost.{no_holds, Nodes}
+use Rattle.raw_schema.specs.Members.{nodes_of_all, nodes_of_maybe}
 use Rattle.tree_text.specs.declared.fault.TextFault.{TextFault}
 use Rattle.tree_text.specs.declared.cursor.Cursor.{Cursor}
-use Rattle.tree_text.specs.TreeText.{schema_node_lines, released_schema, SchemaNodeFits, deepest_level, lines_of_all, lines_of}
-use Rattle.tree_text.specs.Standing.{AtSchema, read_schema_line, next, schema_parts}
+use Rattle.tree_text.specs.promise.TreeText.{schema_node_lines, released_schema, SchemaNodeFits, deepest_level, lines_of_all, lines_of}
+use Rattle.tree_text.specs.promise.Standing.{AtSchema, read_schema_line, next, schema_parts}
 use Rattle.tree_text.specs.Cursors.{left, IsCursor, Stops, Between, SchemaRead, SchemasRead, LiveSchemaRead, listed}
 use Rattle.tree_text.proofs.LineBack.{SchemaLineIs}
 use Rattle.tree_text.proofs.Stands.{schema_gone, schema_stands, schema_some}

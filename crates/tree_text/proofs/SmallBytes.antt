@@ -4,7 +4,7 @@ use Rattle.std.specs.Prelude.{◌&&◌, nat_lt}
 use Rattle.std.specs.List.{list_all}
 use Rattle.std.proofs.lemmas.Bool.{ltb-true, cases_Bool, false≢true}
 use Rattle.std.proofs.Common.{inl, inr, sym, ◌∙◌, ap}
-use Rattle.tree_text.specs.TreeText.{AreBytes}
+use Rattle.tree_text.specs.promise.TreeText.{AreBytes}
 
 pub are_bytes : (bytes : List ℕ) → list_all (λ byte. nat_lt byte 256) bytes ≡ true → AreBytes bytes
 are_bytes [] all = tt

@@ -9,20 +9,20 @@ use Rattle.std.specs.Str.Lines.{lines}
 use Rattle.std.proofs.lemmas.Bool.{cases_Bool, cases_lt, lt-leb, le-leb}
 use Rattle.std.proofs.lemmas.Slice.Eq.{bytes_eq-Decides}
 use Rattle.std.proofs.lemmas.List.{append-nil}
-use Rattle.tree_model.specs.Tree.{Tree, Released, Live, trees, maybe_tree, tree_list}
+use Rattle.tree_model.specs.promise.TreeData.{Tree, Released, Live, trees, maybe_tree, tree_list}
 use Rattle.tree_model.proofs.Lists.{tree_list-trees}
-use Rattle.raw_schema.specs.Members.{SchemaMembers, SchemaTree}
-use Rattle.raw_array.specs.Members.{Buffer, ArrayMembers, ArrayTree, whole}
+use Rattle.raw_schema.specs.promise.Members.{SchemaMembers, SchemaTree}
+use Rattle.raw_array.specs.promise.Members.{Buffer, ArrayMembers, ArrayTree, whole}
 use Rattle.tree_text.specs.declared.fault.TextFault.{TextFault}
 use Rattle.tree_text.specs.declared.fault.TextFault.TheVariants.{Line, TooManyLines}
-use Rattle.tree_text.specs.TreeText.{TreeIs, lines_of, lines_of_all, lines_of_maybe, dictionaries, TreeFits, AllFit, schema_node_lines, array_node_lines}
-use Rattle.tree_text.specs.TreeText.{schema_lines, array_lines, released_schema, released_array}
-use Rattle.tree_text.specs.TreeText.{SchemaNodeFits, ArrayNodeFits, ArrayNumbers, ArrayNumbersFit, numbers_of, array_line, buffer_line}
-use Rattle.tree_text.specs.TreeText.{BufferFits, deepest_level}
-use Rattle.tree_text.specs.Standing.{Place, AtFirst, AtSchema, AtArray, AtBuffer, NodeLine, ReleasedLine, LiveLine, first_fault, all_places, next}
-use Rattle.tree_text.specs.Standing.{schema_parts, array_parts}
-use Rattle.tree_text.specs.Standing.{read_schema_line, read_array_line, read_buffer_line}
-use Rattle.tree_text.specs.Answers.{Reads, most_lines}
+use Rattle.tree_text.specs.promise.TreeText.{TreeIs, lines_of, lines_of_all, lines_of_maybe, dictionaries, TreeFits, AllFit, schema_node_lines, array_node_lines}
+use Rattle.tree_text.specs.promise.TreeText.{schema_lines, array_lines, released_schema, released_array}
+use Rattle.tree_text.specs.promise.TreeText.{SchemaNodeFits, ArrayNodeFits, ArrayNumbers, ArrayNumbersFit, numbers_of, array_line, buffer_line}
+use Rattle.tree_text.specs.promise.TreeText.{BufferFits, deepest_level}
+use Rattle.tree_text.specs.promise.Standing.{Place, AtFirst, AtSchema, AtArray, AtBuffer, NodeLine, ReleasedLine, LiveLine, first_fault, all_places, next}
+use Rattle.tree_text.specs.promise.Standing.{schema_parts, array_parts}
+use Rattle.tree_text.specs.promise.Standing.{read_schema_line, read_array_line, read_buffer_line}
+use Rattle.tree_text.specs.promise.Answers.{Reads, most_lines}
 use Rattle.tree_text.specs.Cursors.{listed, with_buffers}
 use Rattle.tree_text.proofs.LineBack.{SchemaTold, schema_read, ArrayTold, array_read}
 use Rattle.tree_text.proofs.BufferLines.{BufferTold, buffer_read}

@@ -1,8 +1,8 @@
 -- The bytes that a token's text spells, one after another.
 use Rattle.std.proofs.Common.{◌≡◌, ℕ, ◌+◌, ◌<◌, true, false, List, [], ◌∷◌, ◌++◌, length, drop, get_or, Option, Some, None, refl}
 use Rattle.std.proofs.Common.{sym, ap, arith, append_assoc, add-one, drop-cons}
-use Rattle.tree_text.specs.TreeText.{is_plain}
-use Rattle.tree_text.specs.Standing.{read_escape, onto, read_bytes}
+use Rattle.tree_text.specs.promise.TreeText.{is_plain}
+use Rattle.tree_text.specs.promise.Standing.{read_escape, onto, read_bytes}
 
 -- bytes that were read before others
 abbrev pub before : List ℕ → Option (List ℕ) → Option (List ℕ)

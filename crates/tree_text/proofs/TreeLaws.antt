@@ -2,10 +2,12 @@
 use Rattle.std.proofs.Common.{◌≡◌, ℕ, ◌+◌, ◌≤◌, List, [], ◌∷◌, ◌++◌, length, replicate, refl, sym, ap, ◌∙◌, arith}
 use Rattle.std.proofs.Common.{append_assoc, length-append}
 use Rattle.std.proofs.lemmas.List.{replicate-append-replicate}
-use Rattle.tree_model.specs.Tree.{Tree, Released, Live, Trees, no_trees, more_trees, MaybeTree, absent, present, trees, tree_list, Depth}
-use Rattle.tree_model.specs.Tree.{depth_of_all, depth_of_maybe, Cost, cost_of_all, cost_of_maybe}
-use Rattle.tree_text.specs.TreeText.{lines_of, lines_of_all, lines_of_maybe, dictionaries, TreeFits, AllFit, MaybeFits, deepest_level}
-use Rattle.tree_text.specs.Standing.{Place, first_fault}
+use Rattle.tree_model.specs.promise.TreeData.{Tree, Released, Live, Trees, no_trees, more_trees, MaybeTree, absent, present, trees, tree_list}
+use Rattle.tree_model.specs.Tree.{Depth}
+use Rattle.tree_model.specs.promise.TreeCost.{Cost, cost_of_all, cost_of_maybe}
+use Rattle.tree_model.specs.Tree.{depth_of_all, depth_of_maybe}
+use Rattle.tree_text.specs.promise.TreeText.{lines_of, lines_of_all, lines_of_maybe, dictionaries, TreeFits, AllFit, MaybeFits, deepest_level}
+use Rattle.tree_text.specs.promise.Standing.{Place, first_fault}
 
 -- ---- depth
 

@@ -2,14 +2,15 @@
 use Rattle.std.proofs.Common.{◌≡◌, ℕ, suc, ◌+◌, ◌-◌, ◌<◌, ◌≤◌, List, [], ◌∷◌, ◌++◌, length, replicate, Option, Some, None, refl, sym, ap, ◌∙◌, arith}
 use Rattle.std.proofs.Common.{subst, append_assoc, length-append}
 use Rattle.std.proofs.lemmas.List.{replicate-append-replicate, append-nil}
-use Rattle.tree_model.specs.Tree.{Tree, Live, trees, tree_list, maybe_tree}
-use Rattle.tree_model.specs.Tree.{cost_of_all, cost_of_maybe, depth_of_all, depth_of_maybe}
+use Rattle.tree_model.specs.promise.TreeData.{Tree, Live, trees, tree_list, maybe_tree}
+use Rattle.tree_model.specs.promise.TreeCost.{cost_of_all, cost_of_maybe}
+use Rattle.tree_model.specs.Tree.{depth_of_all, depth_of_maybe}
 use Rattle.tree_model.proofs.Lists.{tree_list-trees}
 use Rattle.tree_text.specs.declared.fault.TextFault.{TextFault}
 use Rattle.tree_text.specs.declared.fault.TextFault.TheVariants.{Line}
 use Rattle.tree_text.specs.declared.cursor.Cursor.{Cursor}
-use Rattle.tree_text.specs.TreeText.{lines_of, lines_of_all, lines_of_maybe, dictionaries, TreeFits, AllFit, MaybeFits, deepest_level}
-use Rattle.tree_text.specs.Standing.{Place, first_fault, next}
+use Rattle.tree_text.specs.promise.TreeText.{lines_of, lines_of_all, lines_of_maybe, dictionaries, TreeFits, AllFit, MaybeFits, deepest_level}
+use Rattle.tree_text.specs.promise.Standing.{Place, first_fault, next}
 use Rattle.tree_text.specs.Cursors.{left, IsCursor, StopsAt, Stops, Between, listed}
 use Rattle.tree_text.proofs.Stands.{stops}
 use Rattle.tree_text.proofs.TreeLaws.{all_stand, lines_of_all-append, AllFit-front, AllFit-back}

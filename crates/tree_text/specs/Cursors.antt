@@ -2,17 +2,17 @@
 use Rattle.std.specs.Prelude.{◌≡◌, ℕ, ◌+◌, ◌≤◌, List, [], ◌∷◌, ◌++◌, length, map, drop, Option, None, Some}
 use Rattle.std.specs.List.{AllByRecursion}
 use Rattle.std.specs.Str.Lines.{lines}
-use Rattle.tree_model.specs.Tree.{Live, trees, maybe_tree}
-use Rattle.raw_schema.specs.Members.{SchemaMembers, SchemaTree}
-use Rattle.raw_array.specs.Members.{Buffer, ArrayMembers, ArrayTree}
+use Rattle.tree_model.specs.promise.TreeData.{Live, trees, maybe_tree}
+use Rattle.raw_schema.specs.promise.Members.{SchemaMembers, SchemaTree}
+use Rattle.raw_array.specs.promise.Members.{Buffer, ArrayMembers, ArrayTree}
 use Rattle.raw_array.specs.declared.array.ReleaseKind.TheVariants.{Exported}
 use Rattle.tree_text.specs.declared.fault.TextFault.{TextFault}
 use Rattle.tree_text.specs.declared.fault.TextFault.TheVariants.{Line, TooManyLines, NoMemory}
 use Rattle.tree_text.specs.declared.cursor.Cursor.{Cursor}
-use Rattle.tree_text.specs.Answers.{most_lines}
-use Rattle.tree_text.specs.TreeText.{lines_of, lines_of_all, TreeFits, AllFit, schema_node_lines, array_node_lines, released_schema, released_array}
-use Rattle.tree_text.specs.TreeText.{deepest_level, SchemaNodeFits, ArrayNodeFits, ArrayNumbers, buffer_line, BufferFits}
-use Rattle.tree_text.specs.Standing.{Place, first_fault, NodeLine, read_schema_line, read_array_line, read_buffer_line}
+use Rattle.tree_text.specs.promise.Answers.{most_lines}
+use Rattle.tree_text.specs.promise.TreeText.{lines_of, lines_of_all, TreeFits, AllFit, schema_node_lines, array_node_lines, released_schema, released_array}
+use Rattle.tree_text.specs.promise.TreeText.{deepest_level, SchemaNodeFits, ArrayNodeFits, ArrayNumbers, buffer_line, BufferFits}
+use Rattle.tree_text.specs.promise.Standing.{Place, first_fault, NodeLine, read_schema_line, read_array_line, read_buffer_line}
 
 -- the lines from a cursor on
 abbrev pub left : List ℕ → Cursor → List (List ℕ)

@@ -1,8 +1,6 @@
-pub mod TreeText
+pub mod promise
 pub mod Standing
 pub mod Answers
-pub mod FaultTexts
-pub mod Report
 pub mod Worked
 pub mod LineView
 pub mod Below

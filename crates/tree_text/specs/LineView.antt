@@ -1,6 +1,6 @@
 -- What the code makes of a line. Only private contracts cite this.
 use Rattle.std.specs.Prelude.{◌≡◌, ℕ, List, [], ◌∷◌, length, get_or, Option, None, Some}
-use Rattle.raw_schema.specs.Members.{SchemaMembers}
+use Rattle.raw_schema.specs.promise.Members.{SchemaMembers}
 use Rattle.raw_schema.specs.View.{bytes_of}
 use Rattle.tree_text.specs.declared.node_line.SchemaNodeLine.{SchemaNodeLine}
 use Rattle.tree_text.specs.declared.node_line.SchemaLine.{SchemaLine}
@@ -10,8 +10,8 @@ use Rattle.tree_text.specs.declared.node_line.ArrayLine.{ArrayLine}
 use Rattle.tree_text.specs.declared.node_line.ArrayLine.TheVariants as arrays
 use Rattle.tree_text.specs.declared.node_line.BufferLine.{BufferLine}
 use Rattle.tree_text.specs.declared.node_line.BufferLine.TheVariants as buffers
-use Rattle.tree_text.specs.TreeText.{ArrayNumbers}
-use Rattle.tree_text.specs.Standing.{NodeLine, ReleasedLine, LiveLine}
+use Rattle.tree_text.specs.promise.TreeText.{ArrayNumbers}
+use Rattle.tree_text.specs.promise.Standing.{NodeLine, ReleasedLine, LiveLine}
 
 -- the members of a live schema node
 abbrev pub schema_own : SchemaNodeLine → SchemaMembers

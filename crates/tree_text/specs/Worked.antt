@@ -3,17 +3,17 @@ use Rattle.std.specs.Prelude.{◌≡◌, ℕ, ◌+◌, pos, negsuc, true, false,
 use Rattle.std.specs.List.{flat_map}
 use Rattle.data_types.specs.declared.kind.DataType.{DataType}
 use Rattle.data_types.specs.declared.kind.DataType.TheVariants as kinds
-use Rattle.tree_model.specs.Tree.{Released, Live, Trees, no_trees, more_trees, MaybeTree, absent, present}
-use Rattle.raw_schema.specs.Members.{SchemaMembers, SchemaTree}
-use Rattle.raw_array.specs.Members.{Buffer, ArrayMembers, ArrayTree, whole}
+use Rattle.tree_model.specs.promise.TreeData.{Released, Live, Trees, no_trees, more_trees, MaybeTree, absent, present}
+use Rattle.raw_schema.specs.promise.Members.{SchemaMembers, SchemaTree}
+use Rattle.raw_array.specs.promise.Members.{Buffer, ArrayMembers, ArrayTree, whole}
 use Rattle.raw_array.specs.declared.array.ReleaseKind.TheVariants.{Exported}
 use Rattle.layout_rules.specs.declared.rule.LayoutRule.TheVariants as rules
-use Rattle.data_types.specs.KindTrees.{KindTree}
-use Rattle.layout_rules.specs.Walk.{first_fault}
+use Rattle.data_types.specs.promise.KindTrees.{KindTree}
+use Rattle.layout_rules.specs.promise.Walk.{first_fault}
 use Rattle.layout_rules.specs.WorkedArrays.{faulty}
-use Rattle.tree_text.specs.TreeText.{TreeIs}
-use Rattle.tree_text.specs.Standing.{TreeLineIs, read_token, read_number, read_buffer_line}
-use Rattle.tree_text.specs.Report.{ReportOf}
+use Rattle.tree_text.specs.promise.TreeText.{TreeIs}
+use Rattle.tree_text.specs.promise.Standing.{TreeLineIs, read_token, read_number, read_buffer_line}
+use Rattle.tree_text.specs.promise.Report.{ReportOf}
 
 -- lines that end with a line feed
 abbrev text_of : List (List ℕ) → List ℕ

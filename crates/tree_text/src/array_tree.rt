@@ -1,11 +1,14 @@
 //! The array tree of a text.
 ghost use Rattle.std.specs.Prelude.{◌≡◌, ◌+◌, ◌-◌, ◌^◌, ◌<◌, ◌≤◌, [], ◌∷◌, ◌++◌, length, replicate, Option, IfOk, IfErr, OnOk, MatchResult};
-ghost use Rattle.tree_model.specs.Tree.{Live, Depth, depth_of_all, depth_of_maybe, trees, maybe_tree};
-ghost use Rattle.tree_model.specs.TreeCost.{Nodes, nodes_of_all, Holds, holds_of_all};
-ghost use Rattle.unit_pass.specs.Tally.{risen};
-ghost use Rattle.raw_array.specs.Members.{Cost, cost_of_all, cost_of_maybe, holds_of, holds};
+ghost use Rattle.tree_model.specs.promise.TreeData.{Live, trees, maybe_tree};
+ghost use Rattle.tree_model.specs.Tree.{Depth, depth_of_all, depth_of_maybe};
+ghost use Rattle.tree_model.specs.promise.TreeCost.{Nodes, Holds, holds_of_all};
+ghost use Rattle.tree_model.specs.TreeCost.{nodes_of_all};
+ghost use Rattle.unit_pass.specs.promise.Tally.{risen};
+ghost use Rattle.raw_array.specs.promise.Members.{Cost, holds_of, holds};
+ghost use Rattle.raw_array.specs.Members.{cost_of_all, cost_of_maybe};
 ghost use Rattle.raw_array.specs.View.{buffers_of};
-ghost use Rattle.tree_text.specs.Standing.{AtArray, AtBuffer};
+ghost use Rattle.tree_text.specs.promise.Standing.{AtArray, AtBuffer};
 ghost use Rattle.tree_text.specs.Cursors.{left, IsCursor, Stops, ArrayLineRead, ArrayRead, ArraysRead, LiveArrayRead, with_buffers, listed};
 ghost use Rattle.tree_text.specs.LineView.{array_own, array_told};
 

@@ -1,9 +1,9 @@
 //! The buffers of an array node of a text.
 ghost use Rattle.std.specs.Prelude.{◌≡◌, ◌+◌, ◌-◌, ◌≤◌, [], ◌∷◌, ◌++◌, length, replicate, Option, IfOk, IfErr, OnOk, MatchResult};
-ghost use Rattle.unit_pass.specs.Tally.{risen};
-ghost use Rattle.raw_array.specs.Members.{Buffer, holds_of, whole};
+ghost use Rattle.unit_pass.specs.promise.Tally.{risen};
+ghost use Rattle.raw_array.specs.promise.Members.{Buffer, holds_of, whole};
 ghost use Rattle.raw_array.specs.View.{buffer_of, buffer_if, buffers_of};
-ghost use Rattle.tree_text.specs.Standing.{AtBuffer, read_buffer_line};
+ghost use Rattle.tree_text.specs.promise.Standing.{AtBuffer, read_buffer_line};
 ghost use Rattle.tree_text.specs.Cursors.{left, IsCursor, Stops, BufferLineRead, BufferRead, BuffersRead};
 ghost use Rattle.tree_text.specs.LineView.{buffer_told};
 

@@ -26,7 +26,7 @@ impl From<NoMemory> for TextFault {
 
 impl fmt::Display for TextFault {
     ghost use Rattle.std.specs.Prelude.{Some};
-    ghost use Rattle.tree_text.specs.FaultTexts.{text_fault_text};
+    ghost use Rattle.tree_text.specs.promise.FaultTexts.{text_fault_text};
 
     ghost output = { λ fault. Some (text_fault_text fault) };
 

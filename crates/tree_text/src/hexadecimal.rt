@@ -3,7 +3,8 @@ ghost use Rattle.std.specs.Prelude.{◌≡◌, ◌*◌, ◌<◌, true, length, N
 ghost use Rattle.std.specs.Bool.{OnTrue, OnFalse};
 ghost use Rattle.std.specs.Char.{digit_value};
 ghost use Rattle.raw_schema.specs.View.{bytes_of};
-ghost use Rattle.tree_text.specs.Standing.{is_lower_digit, read_lower_hex};
+ghost use Rattle.tree_text.specs.promise.Standing.{read_lower_hex};
+ghost use Rattle.tree_text.specs.Standing.{is_lower_digit};
 
 use std::alloc::Global;
 use unit_pass::NoMemory;

@@ -2,7 +2,7 @@
 ghost use Rattle.std.specs.Prelude.{◌≡◌, ◌≢◌, ◌+◌, ◌≤◌, ◌<◌, ◌↔◌, ◌==◌, IsTrue, [], ◌∷◌, length, drop, IfSome, IfNone};
 ghost use Rattle.std.specs.List.{slice_split, position};
 ghost use Rattle.std.specs.Str.Lines.{lines, strip_carriage_return};
-ghost use Rattle.tree_text.specs.Answers.{most_lines};
+ghost use Rattle.tree_text.specs.promise.Answers.{most_lines};
 
 /// The most lines of a text.
 const MOST_LINES: u64 = 1 << 20;

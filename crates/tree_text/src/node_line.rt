@@ -1,6 +1,6 @@
 //! What one line says: a node's own members and how many parts it has, or a buffer.
 ghost use Rattle.std.specs.Prelude.{◌≡◌, ◌∷◌, [], Some, None, IfOk, IfSome, IfNone, option_map, Option};
-ghost use Rattle.tree_text.specs.Standing.{fields, read_schema_line, read_array_line, read_buffer_line, read_schema_fields, read_array_fields};
+ghost use Rattle.tree_text.specs.promise.Standing.{fields, read_schema_line, read_array_line, read_buffer_line, read_schema_fields, read_array_fields};
 ghost use Rattle.tree_text.specs.LineView.{IsOther, schema_told, array_told, buffer_told, six};
 
 use crate::hexadecimal::lower_hex;

@@ -1,16 +1,18 @@
 //! The two trees of a text.
 ghost use Rattle.std.specs.Prelude.{◌≡◌, ◌≢◌, ◌+◌, ◌≤◌, [], ◌∷◌, length, codes, Result, IfOk, IfErr, MatchResult};
 ghost use Rattle.std.specs.Str.Lines.{lines};
-ghost use Rattle.tree_model.specs.TreeCost.{Nodes as NodesOf, Holds};
-ghost use Rattle.unit_pass.specs.Tally.{risen};
+ghost use Rattle.tree_model.specs.promise.TreeCost.{Nodes as NodesOf, Holds};
+ghost use Rattle.unit_pass.specs.promise.Tally.{risen};
 ghost use Rattle.unit_pass.specs.declared.pass.TheConstants.{ROOM};
-ghost use Rattle.raw_schema.specs.Members.{SchemaTree, Nodes};
-ghost use Rattle.raw_array.specs.Members.{ArrayTree, Cost, holds};
+ghost use Rattle.raw_schema.specs.promise.Members.{SchemaTree};
+ghost use Rattle.tree_model.specs.promise.TreeCost.{Nodes};
+ghost use Rattle.raw_array.specs.promise.Members.{ArrayTree, Cost, holds};
 ghost use Rattle.tree_text.specs.declared.fault.TextFault.{TextFault as AFault};
 ghost use Rattle.tree_text.specs.declared.fault.TextFault.TheVariants.{NoMemory as NoMemoryFault};
-ghost use Rattle.tree_text.specs.TreeText.{schema_lines, array_lines, SchemaFits, ArrayFits};
-ghost use Rattle.tree_text.specs.Standing.{AtFirst, AtSchema, AtArray};
-ghost use Rattle.tree_text.specs.Answers.{most_lines, Reads, Gives};
+ghost use Rattle.tree_text.specs.promise.TreeText.{schema_lines, array_lines, SchemaFits, ArrayFits};
+ghost use Rattle.tree_text.specs.promise.Standing.{AtFirst, AtSchema, AtArray};
+ghost use Rattle.tree_text.specs.promise.Answers.{most_lines, Reads};
+ghost use Rattle.tree_text.specs.Answers.{Gives};
 ghost use Rattle.tree_text.specs.Cursors.{left, IsCursor, Stops, StopsLast, Between, TreesRead};
 
 use crate::array_tree::array;

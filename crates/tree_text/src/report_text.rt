@@ -1,10 +1,10 @@
 //! The lines of a report, appended to a text.
 ghost use Rattle.std.specs.Prelude.{◌≡◌, ◌∷◌, ◌++◌, Some, IfOk};
 ghost use Rattle.std.specs.Fmt.{signed_decimal};
-ghost use Rattle.tree_text.specs.TreeText.{byte_text, token};
-ghost use Rattle.tree_text.specs.Report.{report_line};
-ghost use Rattle.data_types.specs.WayTexts.{way_text};
-ghost use Rattle.data_types.specs.Ways.{steps_of};
+ghost use Rattle.tree_text.specs.promise.TreeText.{byte_text, token};
+ghost use Rattle.tree_text.specs.promise.Report.{report_line};
+ghost use Rattle.data_types.specs.promise.WayTexts.{way_text};
+ghost use Rattle.data_types.specs.promise.Ways.{steps_of};
 
 use crate::tokens::{is_plain, upper_digit};
 use data_types::Path;

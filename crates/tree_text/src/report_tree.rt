@@ -2,15 +2,19 @@
 ghost use Rattle.std.specs.Prelude.{◌≡◌, ◌+◌, ◌<◌, ◌≤◌, ◌++◌, [], ℕ, map, length, get_or, Some, None, Option, IfOk};
 ghost use Rattle.std.specs.Global.{Box};
 ghost use Rattle.data_types.specs.Kinds.{KindOk};
-ghost use Rattle.tree_model.specs.Tree.{Released, IsLive, Depth, depth_of_all, depth_of_maybe, trees, maybe_tree, child_at, children_of, dictionary_of};
-ghost use Rattle.raw_array.specs.Members.{ArrayTree};
+ghost use Rattle.tree_model.specs.promise.TreeData.{Released, trees, maybe_tree};
+ghost use Rattle.tree_model.specs.promise.TreeParts.{IsLive, child_at, children_of, dictionary_of};
+ghost use Rattle.tree_model.specs.Tree.{Depth, depth_of_all, depth_of_maybe};
+ghost use Rattle.raw_array.specs.promise.Members.{ArrayTree};
 ghost use Rattle.data_types.specs.declared.typed.Typed.{out-Typed};
-ghost use Rattle.data_types.specs.KindTrees.{KindTree, NodesOk, AllNodesOk, DictNodesOk, TypedOk, most_levels};
-ghost use Rattle.data_types.specs.TypedView.{typed_of, dict_in};
+ghost use Rattle.data_types.specs.promise.KindTrees.{KindTree, most_levels};
+ghost use Rattle.data_types.specs.KindTrees.{NodesOk, AllNodesOk, DictNodesOk, TypedOk};
+ghost use Rattle.data_types.specs.promise.TypedView.{typed_of};
+ghost use Rattle.data_types.specs.TypedView.{dict_in};
 ghost use Rattle.layout_check.specs.NodeView.{live_node};
-ghost use Rattle.data_types.specs.Ways.{steps_of};
-ghost use Rattle.layout_rules.specs.Walk.{LayoutOk, visits};
-ghost use Rattle.tree_text.specs.Report.{node_line, visits_text, ReportOf};
+ghost use Rattle.data_types.specs.promise.Ways.{steps_of};
+ghost use Rattle.layout_rules.specs.promise.Walk.{LayoutOk, visits};
+ghost use Rattle.tree_text.specs.promise.Report.{node_line, visits_text, ReportOf};
 ghost use Rattle.tree_text.specs.Below.{children_visits, dictionary_visits};
 
 use crate::report_text::push_line;

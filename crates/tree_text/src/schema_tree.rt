@@ -1,9 +1,11 @@
 //! The schema tree of a text.
 ghost use Rattle.std.specs.Prelude.{◌≡◌, ◌+◌, ◌-◌, ◌^◌, ◌<◌, ◌≤◌, [], ◌∷◌, ◌++◌, length, replicate, Option, IfOk, IfErr, OnOk, MatchResult};
-ghost use Rattle.tree_model.specs.Tree.{Live, Depth, depth_of_all, depth_of_maybe, trees, maybe_tree};
-ghost use Rattle.unit_pass.specs.Tally.{risen};
-ghost use Rattle.raw_schema.specs.Members.{Nodes, nodes_of_all, nodes_of_maybe};
-ghost use Rattle.tree_text.specs.Standing.{AtSchema};
+ghost use Rattle.tree_model.specs.promise.TreeData.{Live, trees, maybe_tree};
+ghost use Rattle.tree_model.specs.Tree.{Depth, depth_of_all, depth_of_maybe};
+ghost use Rattle.unit_pass.specs.promise.Tally.{risen};
+ghost use Rattle.tree_model.specs.promise.TreeCost.{Nodes};
+ghost use Rattle.raw_schema.specs.Members.{nodes_of_all, nodes_of_maybe};
+ghost use Rattle.tree_text.specs.promise.Standing.{AtSchema};
 ghost use Rattle.tree_text.specs.Cursors.{left, IsCursor, Stops, SchemaRead, SchemasRead, LiveSchemaRead, SchemaLineRead, listed};
 ghost use Rattle.tree_text.specs.LineView.{schema_own, schema_told};
 

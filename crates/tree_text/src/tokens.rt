@@ -3,8 +3,8 @@ ghost use Rattle.std.specs.Prelude.{◌≡◌, ◌+◌, ◌<◌, ◌≤◌, true
 ghost use Rattle.std.specs.Char.{digit_value};
 ghost use Rattle.std.specs.Fmt.{digit_glyph};
 ghost use Rattle.raw_schema.specs.View.{bytes_of};
-ghost use Rattle.tree_text.specs.TreeText.{is_plain};
-ghost use Rattle.tree_text.specs.Standing.{read_escape, onto, read_bytes, read_present, read_token};
+ghost use Rattle.tree_text.specs.promise.TreeText.{is_plain};
+ghost use Rattle.tree_text.specs.promise.Standing.{read_escape, onto, read_bytes, read_present, read_token};
 
 use std::alloc::Global;
 use unit_pass::NoMemory;

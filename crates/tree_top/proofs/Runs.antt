@@ -1,8 +1,10 @@
 -- What a run comes to, from what is carried out.
 use Rattle.std.proofs.Common.{ℕ, ◌≡◌, ◌∙◌, true, false, List, Option, None, Some, IfSome, Result, Ok, Err, IfErr, OnOk, ap, sym, subst}
-use Rattle.tree_task.specs.Answer.{Fault, IsAnswerTo}
-use Rattle.tree_task.specs.Faults.{fault_in, has_memory_inside, is_decided}
-use Rattle.tree_task.specs.Over.{RanOver}
+use Rattle.tree_task.specs.promise.TextOrFault.{Fault}
+use Rattle.tree_task.specs.promise.Answer.{IsAnswerTo}
+use Rattle.tree_task.specs.promise.Faults.{has_memory_inside, is_decided}
+use Rattle.tree_task.specs.Faults.{fault_in}
+use Rattle.tree_task.specs.promise.Over.{RanOver}
 use Rattle.tree_task.specs.declared.command.Command.{Command}
 use Rattle.tree_task.specs.declared.fault.TreeRunFault.{TreeRunFault}
 

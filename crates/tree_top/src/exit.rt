@@ -1,9 +1,9 @@
 //! A run as the end of a process.
 ghost use Rattle.std.specs.Prelude.{◌≡◌};
 ghost use Rattle.std.specs.Process.{exit_status};
-ghost use Rattle.tree_task.specs.Answer.{texts_of};
+ghost use Rattle.tree_task.specs.promise.Answer.{texts_of};
 ghost use Rattle.tree_task.specs.declared.outcome.TreeOutcome.{TreeOutcome as AnOutcome};
-ghost use Rattle.tree_top.specs.Ran.{Ran};
+ghost use Rattle.tree_top.specs.promise.Ran.{Ran};
 
 use crate::top::run_tree;
 use edge_io::{Sink, Source};

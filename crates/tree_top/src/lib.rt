@@ -3,7 +3,7 @@
 //!
 //! It reads the source to its end, reads the schema tree and the array tree of the text, checks them as the command asks,
 //! and writes the text that the command makes of them. On success the sink got exactly the text that the definitions give
-//! (`specs/Answer.antt` of `tree_task`). Each refusal has its cause, and each structure and each hold that was made is
+//! (`specs/promise/Answer.antt` of `tree_task`). Each refusal has its cause, and each structure and each hold that was made is
 //! given up again on every path. The line of a fault, with its status, goes to a sink of diagnostics. [`run_tree_to_exit`]
 //! answers the exit status of a process.
 //!

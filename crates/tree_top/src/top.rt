@@ -1,6 +1,6 @@
 //! The top call.
-ghost use Rattle.tree_task.specs.Answer.{texts_of};
-ghost use Rattle.tree_top.specs.Ran.{Ran};
+ghost use Rattle.tree_task.specs.promise.Answer.{texts_of};
+ghost use Rattle.tree_top.specs.promise.Ran.{Ran};
 
 use edge_io::{Sink, Source};
 use std::alloc::Global;
@@ -32,7 +32,7 @@ pub fn run_tree<S: Source, K: Sink, E: Sink>(
     errs: &mut E,
 ) -> TreeOutcome
     // The answer, how far the source was read, what the sink and the sink of diagnostics got, the cause of each fault, and that
-    // nothing is left: the members of `Ran` (`specs/Ran.antt`), each of which says one of these.
+    // nothing is left: the members of `Ran` (`specs/promise/Ran.antt`), each of which says one of these.
     ensures ran { Ran (texts_of words.now)
         (record {
           left = S.left source.old;

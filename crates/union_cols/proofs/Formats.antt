@@ -6,9 +6,9 @@ use Rattle.std.specs.Str.Parse.{AllDigits, digits_value}
 use Rattle.std.proofs.lemmas.List.{append-nil, length-append, append_cancel_left}
 use Rattle.std.proofs.lemmas.Fmt.{decimal_is_IsNumeral, decimal_digit, first_decimal, decimal_injective, decimal-digits_value}
 use Rattle.std.proofs.lemmas.Str.Parse.{IsNumeralModel, numerals_by_value, tells_digits}
-use Rattle.fmt_string.specs.FormatString.{comma, IsNumber, IsPrefix, StartsWith, StartsWithDigit}
+use Rattle.fmt_string.specs.promise.FormatString.{comma, IsNumber, IsPrefix, StartsWith, StartsWithDigit}
 use Rattle.fmt_string.proofs.Rereading.{number_of, number_again, no_number}
-use Rattle.union_cols.specs.UnionFormats.{UnionFormat, keyword, joined, AreIds, ids_before, NoNewId, StartsOtherwise, IdsFault}
+use Rattle.union_cols.specs.promise.UnionFormats.{UnionFormat, keyword, joined, AreIds, ids_before, NoNewId, StartsOtherwise, IdsFault}
 use Rattle.union_cols.specs.UnionFormats.{FormatReads}
 
 -- ---- the digits of an id

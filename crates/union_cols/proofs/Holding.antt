@@ -6,26 +6,28 @@ use Rattle.std.proofs.lemmas.Bool.Decides.{nat_tests}
 use Rattle.std.proofs.lemmas.List.{length-map}
 use Rattle.std.proofs.lemmas.List.Elements.{All-map, All-from_get_or}
 use Rattle.std.proofs.lemmas.List.Quantifiers.{position-Some}
-use Rattle.tree_model.specs.Tree.{Released, Live, IsLive, child_at, children_of}
-use Rattle.raw_array.specs.Members.{ArrayMembers, ArrayTree, members_of}
-use Rattle.data_types.specs.KindTrees.{KindTree}
+use Rattle.tree_model.specs.promise.TreeData.{Released, Live}
+use Rattle.tree_model.specs.promise.TreeParts.{IsLive, child_at, children_of}
+use Rattle.raw_array.specs.promise.Members.{ArrayMembers, ArrayTree, members_of}
+use Rattle.data_types.specs.promise.KindTrees.{KindTree}
 use Rattle.data_types.specs.declared.typed.Typed.{Typed}
-use Rattle.data_types.specs.TypedView.{typed_of}
+use Rattle.data_types.specs.promise.TypedView.{typed_of}
 use Rattle.data_types.proofs.Levels.{typed_out, get_or-typed}
 use Rattle.layout_rules.specs.Lawful.{RootHolds}
 use Rattle.layout_rules.specs.declared.rule.Numbers.{Numbers}
-use Rattle.layout_rules.specs.Layout.{items, end, natural, buffer, bytes, bytes_or_none}
-use Rattle.layout_rules.specs.Rules.{fault_if, first_below, child_short, short_child, live_length, is_outside, window_limit}
-use Rattle.layout_rules.specs.Values.{tree_items}
-use Rattle.layout_rules.specs.Walk.{LayoutOk}
+use Rattle.layout_rules.specs.promise.Layout.{items, end, natural, buffer, bytes, bytes_or_none}
+use Rattle.layout_rules.specs.promise.Rules.{fault_if, first_below, child_short, short_child, live_length, is_outside, window_limit}
+use Rattle.layout_rules.specs.promise.Values.{tree_items}
+use Rattle.layout_rules.specs.promise.Walk.{LayoutOk}
 use Rattle.layout_rules.proofs.Firsts.{first_below-none_at}
 use Rattle.layout_rules.proofs.Lawful.{left-none, right-none}
 use Rattle.root_check.specs.declared.own.OwnFault.{OwnFault}
-use Rattle.root_check.specs.OwnRules.{own_fault, OwnHolds}
-use Rattle.root_check.specs.Children.{ChildFault, children_fault}
-use Rattle.union_cols.specs.Unions.{UnionTree, id_at, start_at, child_of, child_number, item_number, or_zero}
-use Rattle.union_cols.specs.UnionRules.{Rule, BufferAbsent, BufferShort, BadTypeId, ChildShort, OffsetRange, WindowTooLong, buffer_count, need, buffer_absent, buffer_short}
-use Rattle.union_cols.specs.UnionRules.{bad_id, bad_start, own_rule, child_rule, by, union_fault}
+use Rattle.root_check.specs.promise.OwnRules.{own_fault}
+use Rattle.root_check.specs.OwnRules.{OwnHolds}
+use Rattle.root_check.specs.promise.Children.{ChildFault, children_fault}
+use Rattle.union_cols.specs.promise.Unions.{UnionTree, id_at, start_at, child_of, child_number, item_number, or_zero}
+use Rattle.union_cols.specs.promise.UnionRules.{Rule, BufferAbsent, BufferShort, BadTypeId, ChildShort, OffsetRange, WindowTooLong, buffer_count, need, buffer_absent, buffer_short}
+use Rattle.union_cols.specs.promise.UnionRules.{bad_id, bad_start, own_rule, child_rule, by, union_fault}
 use Rattle.union_cols.specs.UnionHolds.{IsReadable, UnionHolds}
 
 -- ---- answers that are none

@@ -8,10 +8,10 @@ use Rattle.std.proofs.lemmas.List.{length-append, map-id}
 use Rattle.std.proofs.lemmas.Iterator.Adapters.{position_from-zero}
 use Rattle.std.proofs.lemmas.Nat.{pow-add}
 use Rattle.std.proofs.Math.Seq.{take-append_seam, drop-append-add}
-use Rattle.data_types.specs.Packed.{le_bytes, le_number, meant, number_at}
+use Rattle.data_types.specs.promise.Packed.{le_bytes, le_number, meant, number_at}
 use Rattle.array_laws.proofs.WindowItems.{length-each}
-use Rattle.layout_rules.specs.Values.{each}
-use Rattle.union_cols.specs.UnionFormats.{AreIds}
+use Rattle.layout_rules.specs.promise.Values.{each}
+use Rattle.union_cols.specs.promise.UnionFormats.{AreIds}
 use Rattle.union_cols.specs.Tags.{numbers, start_bytes}
 
 -- ---- the values of a function from a number on

@@ -4,22 +4,26 @@ use Rattle.std.specs.Prelude.{Result, Ok, Err, ◌⊎◌, IfOk, IfErr, All}
 use Rattle.std.specs.List.{AllZip}
 use Rattle.schema_meta.specs.declared.fault.MetaFault.TheVariants as meta
 use Rattle.schema_check.specs.declared.schema.SchemaFault.TheVariants as checked
-use Rattle.schema_check.specs.Schemas.{TypedOf}
-use Rattle.schema_check.specs.SchemaAnswers.{MetaRefused}
-use Rattle.tree_model.specs.Tree.{Released, Live, IsLive, children_of}
-use Rattle.raw_schema.specs.Members.{SchemaTree, members_of}
-use Rattle.data_types.specs.KindTrees.{KindTree, TypedOk}
+use Rattle.schema_check.specs.promise.Schemas.{TypedOf}
+use Rattle.schema_check.specs.promise.SchemaAnswers.{MetaRefused}
+use Rattle.tree_model.specs.promise.TreeData.{Released, Live}
+use Rattle.tree_model.specs.promise.TreeParts.{IsLive, children_of}
+use Rattle.raw_schema.specs.promise.Members.{SchemaTree, members_of}
+use Rattle.data_types.specs.promise.KindTrees.{KindTree}
+use Rattle.data_types.specs.KindTrees.{TypedOk}
 use Rattle.root_check.specs.declared.own_schema.OwnSchemaFault.{OwnSchemaFault}
 use Rattle.root_check.specs.declared.own_schema.OwnSchemaFault.TheVariants as parts
 use Rattle.root_check.specs.declared.kids.ChildKindsFault.{ChildKindsFault}
 use Rattle.root_check.specs.declared.kids.ChildKindsFault.TheVariants as kids
-use Rattle.root_check.specs.Schemas.{OwnSchemaReads, KidFault, KidsRead}
+use Rattle.root_check.specs.promise.Schemas.{OwnSchemaReads, KidFault}
+use Rattle.root_check.specs.Schemas.{KidsRead}
 use Rattle.root_check.specs.KidAnswers.{IsFaultOfKids}
 use Rattle.union_cols.specs.declared.kinds.UnionTyped.{UnionTyped}
 use Rattle.union_cols.specs.declared.schema_fault.UnionSchemaFault.{UnionSchemaFault}
-use Rattle.union_cols.specs.UnionFormats.{UnionFormat, UnionFormatIs, UnionFormatFault}
-use Rattle.union_cols.specs.Unions.{UnionTree, UnionTypedOk}
-use Rattle.union_cols.specs.UnionSchemas.{format_of, IsUnion, IsPlainUnion, UnionOf, SchemaFound, IsReleased, Format, OwnPart, ChildCount, Child, UnionReads}
+use Rattle.union_cols.specs.promise.UnionFormats.{UnionFormat, UnionFormatIs, UnionFormatFault}
+use Rattle.union_cols.specs.promise.Unions.{UnionTree}
+use Rattle.union_cols.specs.Unions.{UnionTypedOk}
+use Rattle.union_cols.specs.promise.UnionSchemas.{format_of, IsUnion, IsPlainUnion, UnionOf, SchemaFound, IsReleased, Format, OwnPart, ChildCount, Child, UnionReads}
 use Rattle.union_cols.specs.SchemaParts.{own_refused, kids_refused}
 use Rattle.union_cols.specs.UnionAnswers.{union_of, named, IsUnionFault, FailsIf, GivesIf, GivesUnion}
 use Rattle.union_cols.proofs.Formats.{one_format}

@@ -9,7 +9,7 @@ use Rattle.std.proofs.lemmas.List.Elements.{recursion_from_All}
 use Rattle.std.proofs.lemmas.List.Folds.{Any-from_list_any}
 use Rattle.std.proofs.lemmas.Iterator.Adapters.{position_from-zero}
 use Rattle.std.proofs.lemmas.Map.Steps.{length-le_from_distinct_below}
-use Rattle.union_cols.specs.UnionFormats.{AreIds}
+use Rattle.union_cols.specs.promise.UnionFormats.{AreIds}
 use Rattle.union_cols.specs.IdTables.{entry}
 
 -- ---- ids are at most 128

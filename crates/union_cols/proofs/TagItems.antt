@@ -6,24 +6,27 @@ use Rattle.std.specs.Ordering.{int_eq}
 use Rattle.std.proofs.lemmas.Bool.Decides.{Decides-int_eq}
 use Rattle.std.proofs.lemmas.List.{get_or-map, length-map}
 use Rattle.std.proofs.lemmas.List.Quantifiers.{position-Some}
-use Rattle.data_types.specs.Table.{Row}
-use Rattle.data_types.specs.Value.{Null, is_null}
-use Rattle.tree_model.specs.Tree.{Released, Live, IsLive, Trees, MaybeTree, tree_list}
-use Rattle.raw_array.specs.Members.{ArrayMembers, ArrayTree, windowed}
+use Rattle.data_types.specs.promise.Table.{Row}
+use Rattle.data_types.specs.promise.Value.{Null, is_null}
+use Rattle.tree_model.specs.promise.TreeData.{Released, Live, Trees, MaybeTree, tree_list}
+use Rattle.tree_model.specs.promise.TreeParts.{IsLive}
+use Rattle.raw_array.specs.promise.Members.{ArrayMembers, ArrayTree}
+use Rattle.raw_array.specs.Members.{windowed}
 use Rattle.raw_array.specs.Windows.{FitsWindow, Window, is_whole}
-use Rattle.data_types.specs.ColumnKinds.{table_type}
-use Rattle.data_types.specs.KindTrees.{KindTree}
-use Rattle.layout_rules.specs.Layout.{first, items}
-use Rattle.layout_rules.specs.Rules.{live_length}
-use Rattle.layout_rules.specs.Values.{each, field_items, row_items, rows_of, tree_items, value_at}
-use Rattle.layout_rules.specs.Walk.{LayoutOk}
+use Rattle.data_types.specs.promise.ColumnKinds.{table_type}
+use Rattle.data_types.specs.promise.KindTrees.{KindTree}
+use Rattle.layout_rules.specs.promise.Layout.{first, items}
+use Rattle.layout_rules.specs.promise.Rules.{live_length}
+use Rattle.layout_rules.specs.promise.Values.{each, field_items, row_items, rows_of, tree_items, value_at}
+use Rattle.layout_rules.specs.promise.Walk.{LayoutOk}
 use Rattle.array_laws.proofs.ChunkParts.{StructFacts, struct-facts}
 use Rattle.array_laws.proofs.StructLaw.{readers-are}
 use Rattle.array_laws.proofs.WindowItems.{each-same, length-each}
 use Rattle.array_laws.proofs.WindowTree.{window-fits, window-item, window-lawful}
-use Rattle.union_cols.specs.Unions.{id_at, or_zero, union_item, union_items, union_value}
-use Rattle.union_cols.specs.UnionRules.{union_fault}
-use Rattle.union_cols.specs.Tags.{cut_columns, tag_members, tag_of, tagged_item, tagged_items}
+use Rattle.union_cols.specs.promise.Unions.{id_at, or_zero, union_item, union_items, union_value}
+use Rattle.union_cols.specs.promise.UnionRules.{union_fault}
+use Rattle.union_cols.specs.promise.Tags.{tag_of, tagged_item, tagged_items}
+use Rattle.union_cols.specs.Tags.{cut_columns, tag_members}
 use Rattle.union_cols.proofs.Numbering.{get_or-each, map-each}
 use Rattle.union_cols.proofs.TagRules.{AreCut, id-is, kinds_made, made_union, no-rule-fails, value-is}
 

@@ -6,24 +6,29 @@ use Rattle.std.proofs.lemmas.Bool.Decides.{nat_tests}
 use Rattle.std.proofs.lemmas.List.Elements.{All-nil, All-cons}
 use Rattle.data_types.specs.declared.kind.DataType.{DataType}
 use Rattle.data_types.specs.declared.kind.DataType.TheVariants as kinds
-use Rattle.tree_model.specs.Tree.{Released, Live, IsLive, depth_of_all, Trees, no_trees, more_trees, MaybeTree, absent, present, trees, tree_list, option_tree, child_at, children_of}
+use Rattle.tree_model.specs.promise.TreeData.{Released, Live, Trees, no_trees, more_trees, MaybeTree, absent, present, trees, tree_list, option_tree}
+use Rattle.tree_model.specs.promise.TreeParts.{IsLive, child_at, children_of}
+use Rattle.tree_model.specs.Tree.{depth_of_all}
 use Rattle.tree_model.proofs.Lists.{tree_list-trees, trees-tree_list}
-use Rattle.raw_schema.specs.Members.{SchemaMembers, SchemaTree}
-use Rattle.raw_array.specs.Members.{ArrayTree, members_of}
+use Rattle.raw_schema.specs.promise.Members.{SchemaMembers, SchemaTree}
+use Rattle.raw_array.specs.promise.Members.{ArrayTree, members_of}
 use Rattle.raw_array.specs.Windows.{FitsWindow}
-use Rattle.data_types.specs.ColumnKinds.{table_type}
-use Rattle.data_types.specs.KindTrees.{KindTree, AllNodesOk, TypedOk}
-use Rattle.schema_check.specs.Schemas.{TypedFrom, KidsTyped, DictTyped, TypedOf}
-use Rattle.layout_rules.specs.Layout.{items}
-use Rattle.layout_rules.specs.Values.{rows_of, tree_items}
-use Rattle.layout_rules.specs.Walk.{ChunkOk, LayoutOk}
+use Rattle.data_types.specs.promise.ColumnKinds.{table_type}
+use Rattle.data_types.specs.promise.KindTrees.{KindTree}
+use Rattle.data_types.specs.KindTrees.{AllNodesOk, TypedOk}
+use Rattle.schema_check.specs.promise.Schemas.{TypedFrom, KidsTyped, DictTyped, TypedOf}
+use Rattle.layout_rules.specs.promise.Layout.{items}
+use Rattle.layout_rules.specs.promise.Values.{rows_of, tree_items}
+use Rattle.layout_rules.specs.promise.Walk.{ChunkOk, LayoutOk}
 use Rattle.layout_rules.proofs.TreeLaws.{chunk_holds, root_holds}
 use Rattle.array_laws.proofs.ChunkParts.{struct-facts}
-use Rattle.union_cols.specs.Unions.{UnionTypedOk, union_items}
+use Rattle.union_cols.specs.promise.Unions.{union_items}
+use Rattle.union_cols.specs.Unions.{UnionTypedOk}
 use Rattle.union_cols.specs.UnionRules.{UnionOk}
-use Rattle.union_cols.specs.UnionSchemas.{UnionOf}
+use Rattle.union_cols.specs.promise.UnionSchemas.{UnionOf}
 use Rattle.union_cols.specs.TagAnswers.{ChecksAsUnion}
-use Rattle.union_cols.specs.Tags.{cut_columns, tag_fault, tag_format, tag_members, tag_of, tagged_array, tagged_items, tagged_kinds, tagged_schema, most_columns, most_dense_rows}
+use Rattle.union_cols.specs.promise.Tags.{tag_fault, tag_of, tagged_items, most_columns, most_dense_rows}
+use Rattle.union_cols.specs.Tags.{cut_columns, tag_format, tag_members, tagged_array, tagged_kinds, tagged_schema}
 use Rattle.union_cols.proofs.Numbering.{length-numbers, numbers_are_ids}
 use Rattle.union_cols.proofs.TagItems.{fit, tagged-items, tagged-rules}
 use Rattle.union_cols.proofs.TagRules.{kinds_made, made_union}

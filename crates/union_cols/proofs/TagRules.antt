@@ -4,24 +4,25 @@ use Rattle.std.specs.Prelude.{if◌then◌else◌, ◌&&◌, ◌==◌, is_some, 
 use Rattle.std.specs.List.{AllZip}
 use Rattle.std.specs.Option.{option_or}
 use Rattle.std.proofs.lemmas.Bool.{le-ltb, lt-ltb, eq-eqb}
-use Rattle.tree_model.specs.Tree.{Released, Live, trees, absent, tree_list, child_at}
+use Rattle.tree_model.specs.promise.TreeData.{Released, Live, trees, absent, tree_list}
+use Rattle.tree_model.specs.promise.TreeParts.{child_at}
 use Rattle.tree_model.proofs.Lists.{tree_list-trees}
-use Rattle.raw_array.specs.Members.{ArrayMembers, ArrayTree, bytes_in, members_of}
-use Rattle.data_types.specs.Packed.{meant, number_at}
-use Rattle.data_types.specs.KindTrees.{KindTree}
+use Rattle.raw_array.specs.promise.Members.{ArrayMembers, ArrayTree, bytes_in, members_of}
+use Rattle.data_types.specs.promise.Packed.{meant, number_at}
+use Rattle.data_types.specs.promise.KindTrees.{KindTree}
 use Rattle.layout_rules.specs.declared.rule.Numbers.{Numbers}
-use Rattle.layout_rules.specs.Layout.{bytes, bytes_or_none, end, first, natural}
-use Rattle.layout_rules.specs.Rules.{fault_if, first_below, count_wrong, child_short, short_child, live_length, is_outside, window_limit}
-use Rattle.layout_rules.specs.Values.{value_at}
-use Rattle.layout_rules.specs.Walk.{LayoutOk, first_fault}
+use Rattle.layout_rules.specs.promise.Layout.{bytes, bytes_or_none, end, first, natural}
+use Rattle.layout_rules.specs.promise.Rules.{fault_if, first_below, count_wrong, child_short, short_child, live_length, is_outside, window_limit}
+use Rattle.layout_rules.specs.promise.Values.{value_at}
+use Rattle.layout_rules.specs.promise.Walk.{LayoutOk, first_fault}
 use Rattle.layout_rules.proofs.Lawful.{lawful-first_fault}
 use Rattle.array_laws.proofs.NodeParts.{both-none, no-fault, below-none}
 use Rattle.root_check.specs.declared.own.OwnRule.TheVariants as own_rules
-use Rattle.root_check.specs.OwnRules.{own_found, own_fault}
-use Rattle.root_check.specs.Children.{at_child, children_fault}
-use Rattle.union_cols.specs.Unions.{UnionTree, id_at, start_at, child_of, child_number, item_number, or_zero, union_value}
-use Rattle.union_cols.specs.UnionRules.{BufferAbsent, BufferShort, BadTypeId, ChildShort, OffsetRange, WindowTooLong, buffer_count, need, buffer_absent, buffer_short}
-use Rattle.union_cols.specs.UnionRules.{bad_id, bad_start, own_rule, child_rule, by, union_fault}
+use Rattle.root_check.specs.promise.OwnRules.{own_found, own_fault}
+use Rattle.root_check.specs.promise.Children.{at_child, children_fault}
+use Rattle.union_cols.specs.promise.Unions.{UnionTree, id_at, start_at, child_of, child_number, item_number, or_zero, union_value}
+use Rattle.union_cols.specs.promise.UnionRules.{BufferAbsent, BufferShort, BadTypeId, ChildShort, OffsetRange, WindowTooLong, buffer_count, need, buffer_absent, buffer_short}
+use Rattle.union_cols.specs.promise.UnionRules.{bad_id, bad_start, own_rule, child_rule, by, union_fault}
 use Rattle.union_cols.specs.Tags.{block_of, numbers, start_bytes, tag_members}
 use Rattle.union_cols.proofs.Numbering.{length-starts, meant-byte, number-of-byte, place-of-number, start-of-number}
 

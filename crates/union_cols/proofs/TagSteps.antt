@@ -8,19 +8,20 @@ use Rattle.std.proofs.lemmas.Bool.{ne_eqb}
 use Rattle.std.proofs.lemmas.Grind.{flat_map-append}
 use Rattle.std.proofs.lemmas.Iterator.Adapters.{position_from-zero}
 use Rattle.std.proofs.lemmas.List.{append-nil, take_all}
-use Rattle.data_types.specs.Packed.{le_bytes}
+use Rattle.data_types.specs.promise.Packed.{le_bytes}
 use Rattle.buf_block.specs.declared.hold.BufView.{BufView}
-use Rattle.raw_array.specs.Members.{Buffer, holds_of, whole}
+use Rattle.raw_array.specs.promise.Members.{Buffer, holds_of, whole}
 use Rattle.raw_array.specs.View.{buffer_if, buffers_of}
 use Rattle.raw_array.proofs.Buffers.{buffers_of-append}
-use Rattle.data_types.specs.Table.{Row}
-use Rattle.data_types.specs.Value.{Value, is_null}
-use Rattle.fmt_string.specs.FormatString.{comma}
-use Rattle.layout_rules.specs.Values.{each}
-use Rattle.union_cols.specs.Tags.{block_of, numbers, start_bytes, tag_buffers, tag_format, tag_of}
+use Rattle.data_types.specs.promise.Table.{Row}
+use Rattle.data_types.specs.promise.Value.{Value, is_null}
+use Rattle.fmt_string.specs.promise.FormatString.{comma}
+use Rattle.layout_rules.specs.promise.Values.{each}
+use Rattle.union_cols.specs.promise.Tags.{tag_of}
+use Rattle.union_cols.specs.Tags.{block_of, numbers, start_bytes, tag_buffers, tag_format}
 use Rattle.union_cols.specs.TagViews.{starts_in}
-use Rattle.union_cols.specs.UnionFormats.{ids_before, joined, keyword}
-use Rattle.union_cols.specs.Unions.{or_zero}
+use Rattle.union_cols.specs.promise.UnionFormats.{ids_before, joined, keyword}
+use Rattle.union_cols.specs.promise.Unions.{or_zero}
 use Rattle.union_cols.proofs.Formats.{joined_push}
 use Rattle.union_cols.proofs.Numbering.{each-more}
 

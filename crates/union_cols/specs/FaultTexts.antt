@@ -2,7 +2,7 @@
 use Rattle.std.specs.Prelude.{ℕ, ◌++◌, List, codes, decimal}
 use Rattle.std.specs.Fmt.{signed_decimal}
 use Rattle.schema_meta.specs.FaultTexts.{read_fault_text}
-use Rattle.layout_rules.specs.FaultTexts.{layout_fault_text}
+use Rattle.layout_rules.specs.promise.FaultTexts.{layout_fault_text}
 use Rattle.schema_check.specs.FaultTexts.{schema_fault_text}
 use Rattle.union_cols.specs.declared.rule.UnionRule.{UnionRule}
 use Rattle.union_cols.specs.declared.rule.UnionRule.TheVariants as rules

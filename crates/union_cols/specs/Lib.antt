@@ -1,7 +1,7 @@
+pub mod promise
 pub mod UnionFormats
 pub mod Unions
 pub mod UnionRules
-pub mod UnionSchemas
 pub mod UnionHolds
 pub mod SchemaParts
 pub mod FormatAnswers

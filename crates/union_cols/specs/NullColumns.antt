@@ -1,9 +1,9 @@
 -- Which columns of a chunk are looked at for the first value that isn't null.
 use Rattle.std.specs.Prelude.{◌≡◌, ◌<◌, ◌+◌, ℕ, true, List, get_or, length}
-use Rattle.data_types.specs.KindTrees.{KindTree}
-use Rattle.data_types.specs.Value.{Null, is_null}
-use Rattle.layout_rules.specs.Values.{row_items}
-use Rattle.raw_array.specs.Members.{ArrayTree}
+use Rattle.data_types.specs.promise.KindTrees.{KindTree}
+use Rattle.data_types.specs.promise.Value.{Null, is_null}
+use Rattle.layout_rules.specs.promise.Values.{row_items}
+use Rattle.raw_array.specs.promise.Members.{ArrayTree}
 
 -- a column is null in each row
 abbrev pub IsNullColumn : KindTree → ArrayTree → ℕ → Type 0

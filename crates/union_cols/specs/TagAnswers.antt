@@ -1,12 +1,13 @@
 -- What the answers of `tag` say.
 use Rattle.std.specs.Prelude.{Option, None, Some, Result, Ok, Err}
-use Rattle.raw_array.specs.Members.{ArrayTree}
-use Rattle.raw_schema.specs.Members.{SchemaTree}
+use Rattle.raw_array.specs.promise.Members.{ArrayTree}
+use Rattle.raw_schema.specs.promise.Members.{SchemaTree}
 use Rattle.union_cols.specs.declared.tag_fault.TagFault.{TagFault}
 use Rattle.union_cols.specs.declared.tag_fault.TagFault.TheVariants.{Columns, TooLong, NoMemory}
-use Rattle.union_cols.specs.Unions.{UnionTree, UnionTypedOk}
+use Rattle.union_cols.specs.promise.Unions.{UnionTree}
+use Rattle.union_cols.specs.Unions.{UnionTypedOk}
 use Rattle.union_cols.specs.UnionRules.{UnionOk}
-use Rattle.union_cols.specs.UnionSchemas.{UnionOf}
+use Rattle.union_cols.specs.promise.UnionSchemas.{UnionOf}
 
 -- the fault that is no out-of-memory
 abbrev pub named_tag : TagFault → Option TagFault

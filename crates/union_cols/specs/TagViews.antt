@@ -2,7 +2,7 @@
 use Rattle.std.specs.Prelude.{ℕ, ℤ, pos, List, [], ◌∷◌, Option, None, Some}
 use Rattle.std.specs.declared.alloc.Global.{Global}
 use Rattle.std.specs.declared.vec.Vec.{Vec}
-use Rattle.raw_array.specs.Members.{ArrayMembers, Buffer}
+use Rattle.raw_array.specs.promise.Members.{ArrayMembers, Buffer}
 use Rattle.raw_array.specs.declared.array.ReleaseKind.TheVariants.{Exported}
 use Rattle.union_cols.specs.Tags.{block_of}
 

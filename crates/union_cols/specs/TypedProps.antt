@@ -7,8 +7,9 @@ use Rattle.std.proofs.Props.{props}
 use Rattle.data_types.specs.declared.kind.DataType.{DataType}
 use Rattle.data_types.specs.declared.kind.DataType.TheVariants as kinds
 use Rattle.data_types.specs.Kinds.{KindOk}
-use Rattle.tree_model.specs.Tree.{Released, Live, Trees, no_trees, more_trees, MaybeTree, absent, present}
-use Rattle.data_types.specs.KindTrees.{KindTree, IsPairOfColumns, IsOneChild, IsNoChild, KidsOk, DictOk, NodesOk, AllNodesOk, DictNodesOk, TypedOk}
+use Rattle.tree_model.specs.promise.TreeData.{Released, Live, Trees, no_trees, more_trees, MaybeTree, absent, present}
+use Rattle.data_types.specs.promise.KindTrees.{KindTree}
+use Rattle.data_types.specs.KindTrees.{IsPairOfColumns, IsOneChild, IsNoChild, KidsOk, DictOk, NodesOk, AllNodesOk, DictNodesOk, TypedOk}
 
 either_prop : {A B : Type 0} → IsProp A → IsProp B → (A → B → ⊥) → IsProp (A ⊎ B)
 either_prop a b apart (inl p) (inl q) = ap inl (a p q)

@@ -1,8 +1,8 @@
 -- What the answers of the calls say.
 use Rattle.std.specs.Prelude.{◌≡◌, map, Option, None, Some, Result, Ok, Err}
-use Rattle.raw_schema.specs.Members.{SchemaTree}
-use Rattle.data_types.specs.TypedView.{typed_of}
-use Rattle.data_types.specs.Ways.{steps_of}
+use Rattle.raw_schema.specs.promise.Members.{SchemaTree}
+use Rattle.data_types.specs.promise.TypedView.{typed_of}
+use Rattle.data_types.specs.promise.Ways.{steps_of}
 use Rattle.schema_check.specs.declared.schema.SchemaFault.TheVariants as schema
 use Rattle.schema_meta.specs.declared.fault.MetaFault.TheVariants as meta
 use Rattle.layout_rules.specs.Found.{fault_of}
@@ -14,10 +14,10 @@ use Rattle.union_cols.specs.declared.schema_fault.UnionSchemaFault.TheVariants a
 use Rattle.union_cols.specs.declared.rule.UnionRule.{UnionRule}
 use Rattle.union_cols.specs.declared.rule.UnionRule.TheVariants as rules
 use Rattle.union_cols.specs.declared.rule.UnionFault.{UnionFault}
-use Rattle.union_cols.specs.Unions.{UnionTree}
-use Rattle.union_cols.specs.UnionRules.{Rule, Own, BufferAbsent, BufferShort, BadTypeId, Child, ChildShort, OffsetRange, WindowTooLong, UnionFound}
-use Rattle.union_cols.specs.UnionSchemas as schemas
-use Rattle.union_cols.specs.UnionSchemas.{SchemaFound, UnionSchemaFails}
+use Rattle.union_cols.specs.promise.Unions.{UnionTree}
+use Rattle.union_cols.specs.promise.UnionRules.{Rule, Own, BufferAbsent, BufferShort, BadTypeId, Child, ChildShort, OffsetRange, WindowTooLong, UnionFound}
+use Rattle.union_cols.specs.promise.UnionSchemas as schemas
+use Rattle.union_cols.specs.promise.UnionSchemas.{SchemaFound, UnionSchemaFails}
 
 -- the kinds that the code keeps
 abbrev pub union_of : UnionTyped → UnionTree

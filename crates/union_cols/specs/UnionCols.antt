@@ -1,7 +1,7 @@
 -- What contracts see of a union that is read in place.
-use Rattle.raw_array.specs.Members.{ArrayTree}
+use Rattle.raw_array.specs.promise.Members.{ArrayTree}
 use Rattle.union_cols.specs.declared.column.UnionCol.{UnionCol}
-use Rattle.union_cols.specs.Unions.{UnionTree}
+use Rattle.union_cols.specs.promise.Unions.{UnionTree}
 use Rattle.union_cols.specs.UnionAnswers.{union_of}
 
 -- its kinds

@@ -1,15 +1,15 @@
 -- What holds of a union's array at which no rule fails.
 use Rattle.std.specs.Prelude.{◌≡◌, ℕ, ◌*◌, ◌<◌, ◌≤◌, Bool, IsTrue, length, Some, pos, ◌≤ℤ◌}
 use Rattle.std.specs.List.{AllZip}
-use Rattle.tree_model.specs.Tree.{child_at, children_of}
-use Rattle.raw_array.specs.Members.{ArrayMembers, ArrayTree, members_of}
-use Rattle.layout_rules.specs.Layout.{items, end, bytes}
-use Rattle.layout_rules.specs.Rules.{window_limit}
-use Rattle.layout_rules.specs.Values.{tree_items}
-use Rattle.layout_rules.specs.Walk.{LayoutOk}
+use Rattle.tree_model.specs.promise.TreeParts.{child_at, children_of}
+use Rattle.raw_array.specs.promise.Members.{ArrayMembers, ArrayTree, members_of}
+use Rattle.layout_rules.specs.promise.Layout.{items, end, bytes}
+use Rattle.layout_rules.specs.promise.Rules.{window_limit}
+use Rattle.layout_rules.specs.promise.Values.{tree_items}
+use Rattle.layout_rules.specs.promise.Walk.{LayoutOk}
 use Rattle.root_check.specs.OwnRules.{OwnHolds}
-use Rattle.union_cols.specs.Unions.{UnionTree, id_at, start_at, child_of, child_number, item_number}
-use Rattle.union_cols.specs.UnionRules.{buffer_count}
+use Rattle.union_cols.specs.promise.Unions.{UnionTree, id_at, start_at, child_of, child_number, item_number}
+use Rattle.union_cols.specs.promise.UnionRules.{buffer_count}
 
 -- the buffers have an id, and an offset where the union is dense, for each place up to the window's end
 pub record IsReadable (dense : Bool) (own : ArrayMembers) : Type 0 where

@@ -1,16 +1,16 @@
 -- Small unions with their kinds.
 use Rattle.std.specs.Prelude.{ℕ, ℤ, pos, Bool, false, List, [], ◌∷◌, Option, Some, None}
 use Rattle.data_types.specs.declared.kind.DataType.TheVariants as kinds
-use Rattle.data_types.specs.Value.{Value}
-use Rattle.tree_model.specs.Tree.{Live, trees, absent}
-use Rattle.raw_array.specs.Members.{ArrayTree, Buffer, members_of}
-use Rattle.layout_rules.specs.Layout.{items}
-use Rattle.layout_rules.specs.Values.{each}
+use Rattle.data_types.specs.promise.Value.{Value}
+use Rattle.tree_model.specs.promise.TreeData.{Live, trees, absent}
+use Rattle.raw_array.specs.promise.Members.{ArrayTree, Buffer, members_of}
+use Rattle.layout_rules.specs.promise.Layout.{items}
+use Rattle.layout_rules.specs.promise.Values.{each}
 use Rattle.layout_rules.specs.WorkedArrays.{flat, int32, buffer, members, leaf}
-use Rattle.data_types.specs.ColumnKinds.{table_type}
-use Rattle.data_types.specs.KindTrees.{KindTree}
-use Rattle.union_cols.specs.Unions.{UnionItem, UnionTree, union_value}
-use Rattle.union_cols.specs.UnionRules.{Rule, UnionFound}
+use Rattle.data_types.specs.promise.ColumnKinds.{table_type}
+use Rattle.data_types.specs.promise.KindTrees.{KindTree}
+use Rattle.union_cols.specs.promise.Unions.{UnionItem, UnionTree, union_value}
+use Rattle.union_cols.specs.promise.UnionRules.{Rule, UnionFound}
 
 -- numbers with the id 5, and bytes with the id 7
 abbrev pub numbers_and_bytes : Bool → UnionTree

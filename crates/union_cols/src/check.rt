@@ -1,11 +1,12 @@
 //! The rules of a union's array, one after the other.
 ghost use Rattle.std.specs.Prelude.{◌≡◌, ◌↔◌, IsOk, None, OnOk, Option, All, length};
-ghost use Rattle.tree_model.specs.Tree.{IsLive, children_of};
-ghost use Rattle.raw_array.specs.Members.{ArrayTree, members_of};
-ghost use Rattle.layout_rules.specs.Layout.{items};
-ghost use Rattle.layout_rules.specs.Rules.{first_below};
+ghost use Rattle.tree_model.specs.promise.TreeParts.{IsLive, children_of};
+ghost use Rattle.raw_array.specs.promise.Members.{ArrayTree, members_of};
+ghost use Rattle.layout_rules.specs.promise.Layout.{items};
+ghost use Rattle.layout_rules.specs.promise.Rules.{first_below};
 ghost use Rattle.union_cols.specs.Unions.{UnionTypedOk};
-ghost use Rattle.union_cols.specs.UnionRules.{bad_id, place_answers, first_answer, union_fault, UnionOk, by};
+ghost use Rattle.union_cols.specs.promise.UnionRules.{bad_id, place_answers, first_answer, union_fault, by};
+ghost use Rattle.union_cols.specs.UnionRules.{UnionOk};
 ghost use Rattle.union_cols.specs.UnionHolds.{IsReadable};
 ghost use Rattle.union_cols.specs.UnionAnswers.{union_of, rule_of, found_union};
 

@@ -1,9 +1,9 @@
 //! The items of a union, read in place.
 ghost use Rattle.std.specs.Prelude.{◌≡◌, IsTrue, is_none, All, length, map};
 ghost use Rattle.data_types.specs.KindTrees.{TypedOk};
-ghost use Rattle.data_types.specs.TypedView.{typed_of};
+ghost use Rattle.data_types.specs.promise.TypedView.{typed_of};
 ghost use Rattle.union_cols.specs.TypedProps.{all_typed_prop};
-ghost use Rattle.union_cols.specs.UnionRules.{union_fault};
+ghost use Rattle.union_cols.specs.promise.UnionRules.{union_fault};
 ghost use Rattle.union_cols.specs.UnionAnswers.{union_of};
 
 use crate::id_table::IdTable;
@@ -29,14 +29,15 @@ pub struct UnionCol<'a> {
 
 impl<'a> UnionCol<'a> {
     ghost use Rattle.std.specs.Prelude.{ℕ, ◌≤ℤ◌, ◌<ℤ◌, pos, ◌<◌};
-    ghost use Rattle.tree_model.specs.Tree.{child_at};
-    ghost use Rattle.raw_array.specs.Members.{ArrayTree, members_of};
-    ghost use Rattle.layout_rules.specs.Layout.{items, natural};
-    ghost use Rattle.layout_rules.specs.Values.{tree_items};
+    ghost use Rattle.tree_model.specs.promise.TreeParts.{child_at};
+    ghost use Rattle.raw_array.specs.promise.Members.{ArrayTree, members_of};
+    ghost use Rattle.layout_rules.specs.promise.Layout.{items, natural};
+    ghost use Rattle.layout_rules.specs.promise.Values.{tree_items};
     ghost use Rattle.arr_import.specs.Cols.{window_of};
     ghost use Rattle.arr_import.specs.Shown.{Shows};
     ghost use Rattle.arr_import.specs.Window.{whole};
-    ghost use Rattle.union_cols.specs.Unions.{UnionTypedOk, id_at, child_number, item_number, kid_at, union_value};
+    ghost use Rattle.union_cols.specs.promise.Unions.{id_at, child_number, item_number, kid_at, union_value};
+    ghost use Rattle.union_cols.specs.Unions.{UnionTypedOk};
     ghost use Rattle.union_cols.specs.UnionRules.{UnionOk};
     ghost use Rattle.union_cols.specs.UnionCols.{kinds_in, array_in};
 

@@ -17,8 +17,8 @@ pub(crate) struct IdTable<'a> {
 
 impl<'a> IdTable<'a> {
     ghost use Rattle.std.specs.Prelude.{Option};
-    ghost use Rattle.union_cols.specs.Unions.{child_of};
-    ghost use Rattle.union_cols.specs.UnionFormats.{AreIds};
+    ghost use Rattle.union_cols.specs.promise.Unions.{child_of};
+    ghost use Rattle.union_cols.specs.promise.UnionFormats.{AreIds};
 
     /// The table of distinct ids, each of at most 127, in the order of the children.
     pub(crate) fn of(ids: &'a [u8]) -> IdTable<'a>

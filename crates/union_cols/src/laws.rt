@@ -1,20 +1,23 @@
 //! Laws of the answers on schemas, and of arrays at which no rule fails. The calls do nothing.
 ghost use Rattle.std.specs.Prelude.{◌≡◌, ℕ, Bool, None, List, Result, IsTrue, is_none, length};
-ghost use Rattle.tree_model.specs.Tree.{children_of};
-ghost use Rattle.raw_schema.specs.Members.{SchemaTree};
-ghost use Rattle.raw_array.specs.Members.{ArrayTree};
-ghost use Rattle.data_types.specs.KindTrees.{KindTree, TypedOk};
-ghost use Rattle.schema_check.specs.Schemas.{TypedOf};
-ghost use Rattle.layout_rules.specs.Values.{rows_of, tree_items};
-ghost use Rattle.layout_rules.specs.Walk.{ChunkOk};
-ghost use Rattle.union_cols.specs.Unions.{UnionTree, union_items};
-ghost use Rattle.union_cols.specs.UnionRules.{union_fault};
+ghost use Rattle.tree_model.specs.promise.TreeParts.{children_of};
+ghost use Rattle.raw_schema.specs.promise.Members.{SchemaTree};
+ghost use Rattle.raw_array.specs.promise.Members.{ArrayTree};
+ghost use Rattle.data_types.specs.promise.KindTrees.{KindTree};
+ghost use Rattle.data_types.specs.KindTrees.{TypedOk};
+ghost use Rattle.schema_check.specs.promise.Schemas.{TypedOf};
+ghost use Rattle.layout_rules.specs.promise.Values.{rows_of, tree_items};
+ghost use Rattle.layout_rules.specs.promise.Walk.{ChunkOk};
+ghost use Rattle.union_cols.specs.promise.Unions.{UnionTree, union_items};
+ghost use Rattle.union_cols.specs.promise.UnionRules.{union_fault};
 ghost use Rattle.union_cols.specs.UnionHolds.{UnionHolds};
 ghost use Rattle.union_cols.specs.UnionAnswers.{union_of};
-ghost use Rattle.union_cols.specs.UnionFormats.{UnionFormat, FormatReads};
-ghost use Rattle.union_cols.specs.UnionSchemas.{SchemaFound, UnionReads};
+ghost use Rattle.union_cols.specs.promise.UnionFormats.{UnionFormat};
+ghost use Rattle.union_cols.specs.UnionFormats.{FormatReads};
+ghost use Rattle.union_cols.specs.promise.UnionSchemas.{SchemaFound, UnionReads};
 ghost use Rattle.union_cols.specs.TagAnswers.{ChecksAsUnion};
-ghost use Rattle.union_cols.specs.Tags.{tag_fault, tagged_array, tagged_items, tagged_kinds, tagged_schema};
+ghost use Rattle.union_cols.specs.promise.Tags.{tag_fault, tagged_items};
+ghost use Rattle.union_cols.specs.Tags.{tagged_array, tagged_kinds, tagged_schema};
 
 use crate::kinds::UnionTyped;
 use raw_array::RawArray;

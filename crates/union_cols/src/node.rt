@@ -1,10 +1,10 @@
 //! A live union whose numbers and parts are counted: what the rules on its buffers and items are tried on.
 ghost use Rattle.std.specs.Prelude.{◌≡◌, ◌≤ℤ◌, ◌<◌, ◌^◌, pos, length};
-ghost use Rattle.tree_model.specs.Tree.{IsLive};
-ghost use Rattle.raw_array.specs.Members.{ArrayTree, members_of};
-ghost use Rattle.layout_rules.specs.Layout.{first, end, bytes};
+ghost use Rattle.tree_model.specs.promise.TreeParts.{IsLive};
+ghost use Rattle.raw_array.specs.promise.Members.{ArrayTree, members_of};
+ghost use Rattle.layout_rules.specs.promise.Layout.{first, end, bytes};
 ghost use Rattle.layout_check.specs.Formed.{IsLive-prop};
-ghost use Rattle.union_cols.specs.UnionRules.{buffer_count};
+ghost use Rattle.union_cols.specs.promise.UnionRules.{buffer_count};
 
 use crate::id_table::IdTable;
 use bit_pack::{int_at, offset_at};
@@ -51,11 +51,11 @@ fn buffer_bytes(array: &RawArray, k: usize) -> &[u8]
 
 impl<'a> UnionNode<'a> {
     ghost use Rattle.std.specs.Prelude.{◌+◌, ◌*◌, ◌≤◌, Option, None, All};
-    ghost use Rattle.tree_model.specs.Tree.{children_of};
-    ghost use Rattle.layout_rules.specs.Layout.{items};
-    ghost use Rattle.layout_rules.specs.Rules.{first_below};
-    ghost use Rattle.union_cols.specs.Unions.{id_at, start_at, child_number};
-    ghost use Rattle.union_cols.specs.UnionRules.{need, buffer_absent, buffer_short, bad_id, bad_start};
+    ghost use Rattle.tree_model.specs.promise.TreeParts.{children_of};
+    ghost use Rattle.layout_rules.specs.promise.Layout.{items};
+    ghost use Rattle.layout_rules.specs.promise.Rules.{first_below};
+    ghost use Rattle.union_cols.specs.promise.Unions.{id_at, start_at, child_number};
+    ghost use Rattle.union_cols.specs.promise.UnionRules.{need, buffer_absent, buffer_short, bad_id, bad_start};
 
     /// The node of an array that the rules on its own numbers and parts hold of.
     pub(crate) fn of(dense: bool, array: &'a RawArray) -> UnionNode<'a>

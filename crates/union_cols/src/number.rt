@@ -3,8 +3,8 @@ ghost use Rattle.std.specs.Prelude.{◌≡◌, ◌≤◌, min, length, take, dro
 ghost use Rattle.std.specs.List.{prefix_len};
 ghost use Rattle.std.specs.Char.{is_ascii_digit};
 ghost use Rattle.std.specs.Str.Parse.{AllDigits, digits_value};
-ghost use Rattle.fmt_string.specs.FormatString.{NumberThen, NoNumber};
-ghost use Rattle.layout_rules.specs.Rules.{window_limit};
+ghost use Rattle.fmt_string.specs.promise.FormatString.{NumberThen, NoNumber};
+ghost use Rattle.layout_rules.specs.promise.Rules.{window_limit};
 
 /// Where values of numbers stop growing: above every id.
 const LARGEST: u64 = 1 << 40;

@@ -1,11 +1,12 @@
 //! The kinds of a union's schema.
 ghost use Rattle.std.specs.Prelude.{◌≡◌, IfOk, IfErr, Result};
-ghost use Rattle.raw_schema.specs.Members.{SchemaTree, members_of};
-ghost use Rattle.tree_model.specs.Tree.{IsLive};
+ghost use Rattle.raw_schema.specs.promise.Members.{SchemaTree, members_of};
+ghost use Rattle.tree_model.specs.promise.TreeParts.{IsLive};
 ghost use Rattle.union_cols.specs.FormatAnswers.{format_in};
-ghost use Rattle.union_cols.specs.UnionFormats.{UnionFormatIs};
-ghost use Rattle.union_cols.specs.Unions.{UnionTree, UnionTypedOk};
-ghost use Rattle.union_cols.specs.UnionSchemas.{UnionOf, SchemaFound, UnionReads};
+ghost use Rattle.union_cols.specs.promise.UnionFormats.{UnionFormatIs};
+ghost use Rattle.union_cols.specs.promise.Unions.{UnionTree};
+ghost use Rattle.union_cols.specs.Unions.{UnionTypedOk};
+ghost use Rattle.union_cols.specs.promise.UnionSchemas.{UnionOf, SchemaFound, UnionReads};
 ghost use Rattle.union_cols.specs.UnionAnswers.{union_of, IsUnionFault, GivesUnion};
 
 use crate::format::{FormatFault, UnionFormat, union_format};

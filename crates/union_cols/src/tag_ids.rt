@@ -1,16 +1,17 @@
 //! Which column each item of a union comes from, and where it is there.
 ghost use Rattle.std.specs.Prelude.{◌≡◌, ◌<◌, ◌≤◌, ◌^◌, ◌∷◌, [], ℕ, true, IfOk, IsTrue, if◌then◌else◌, get_or, length, map};
-ghost use Rattle.data_types.specs.Value.{Null, is_null};
-ghost use Rattle.tree_model.specs.Tree.{children_of};
+ghost use Rattle.data_types.specs.promise.Value.{Null, is_null};
+ghost use Rattle.tree_model.specs.promise.TreeParts.{children_of};
 ghost use Rattle.data_types.specs.KindTrees.{TypedOk};
-ghost use Rattle.data_types.specs.TypedView.{typed_of};
-ghost use Rattle.layout_rules.specs.Values.{rows_of, value_at};
-ghost use Rattle.layout_rules.specs.Walk.{ChunkOk, LayoutOk};
+ghost use Rattle.data_types.specs.promise.TypedView.{typed_of};
+ghost use Rattle.layout_rules.specs.promise.Values.{rows_of, value_at};
+ghost use Rattle.layout_rules.specs.promise.Walk.{ChunkOk, LayoutOk};
 ghost use Rattle.arr_import.specs.declared.col.Col.{Col as ACol};
 ghost use Rattle.arr_import.specs.Cols.{window_of};
 ghost use Rattle.arr_import.specs.Window.{item_at};
 ghost use Rattle.union_cols.specs.NullColumns.{AreAllBut, IsNullColumn};
-ghost use Rattle.union_cols.specs.Tags.{block_of, start_bytes, tag_of};
+ghost use Rattle.union_cols.specs.promise.Tags.{tag_of};
+ghost use Rattle.union_cols.specs.Tags.{block_of, start_bytes};
 ghost use Rattle.union_cols.specs.TagViews.{starts_in};
 
 use arr_import::{Col, ValueRef};

@@ -1,9 +1,11 @@
 //! The parts of a struct moved under a new top ("The Arrow C Data Interface", "Moving child arrays").
 ghost use Rattle.std.specs.Prelude.{◌≡◌, ◌+◌, ◌<◌, ◌≤◌, ◌≤ℤ◌, ℕ, pos, length, map};
-ghost use Rattle.tree_model.specs.Tree.{Depth, IsLive, Released, child_at, children_of, with_child};
-ghost use Rattle.raw_array.specs.Members.{Cost};
+ghost use Rattle.tree_model.specs.promise.TreeParts.{IsLive, child_at, children_of};
+ghost use Rattle.tree_model.specs.promise.TreeData.{Released};
+ghost use Rattle.tree_model.specs.Tree.{Depth, with_child};
+ghost use Rattle.raw_array.specs.promise.Members.{Cost};
 ghost use Rattle.raw_array.specs.Windows.{FitsWindow, Window};
-ghost use Rattle.raw_schema.specs.Members.{Nodes};
+ghost use Rattle.tree_model.specs.promise.TreeCost.{Nodes};
 ghost use Rattle.arr_move.specs.TreeActs.{with_children};
 
 use arr_move::slice;

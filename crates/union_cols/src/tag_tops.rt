@@ -1,15 +1,17 @@
 //! The tops of a union that is made: a schema and an array whose children are released.
 ghost use Rattle.std.specs.Prelude.{◌≡◌, ◌+◌, ◌-◌, ◌^◌, ◌<◌, ◌≤◌, ◌++◌, ◌∷◌, ◌≤ℤ◌, [], ℕ, pos, decimal, None, IfOk, OnOk, IsTrue, if◌then◌else◌, is_ok, length, replicate, vec_len, vec_capacity, MatchResult};
-ghost use Rattle.tree_model.specs.Tree.{IsLive, Live, Released, absent, child_at, children_of, trees};
-ghost use Rattle.raw_array.specs.Members.{Cost, holds_of};
+ghost use Rattle.tree_model.specs.promise.TreeParts.{IsLive, child_at, children_of};
+ghost use Rattle.tree_model.specs.promise.TreeData.{Live, Released, absent, trees};
+ghost use Rattle.raw_array.specs.promise.Members.{Cost, holds_of};
 ghost use Rattle.raw_array.specs.View.{buffer_if, buffers_of};
-ghost use Rattle.raw_schema.specs.Members.{Nodes, members_of};
+ghost use Rattle.tree_model.specs.promise.TreeCost.{Nodes};
+ghost use Rattle.raw_schema.specs.promise.Members.{members_of};
 ghost use Rattle.raw_schema.specs.View.{bytes_of};
-ghost use Rattle.unit_pass.specs.Tally.{risen};
+ghost use Rattle.unit_pass.specs.promise.Tally.{risen};
 ghost use Rattle.union_cols.specs.Tags.{block_of, tag_format, tag_members, tagged_members};
 ghost use Rattle.union_cols.specs.TagViews.{starts_in, union_members};
-ghost use Rattle.fmt_string.specs.FormatString.{comma};
-ghost use Rattle.union_cols.specs.UnionFormats.{keyword as keyword_is};
+ghost use Rattle.fmt_string.specs.promise.FormatString.{comma};
+ghost use Rattle.union_cols.specs.promise.UnionFormats.{keyword as keyword_is};
 
 use buf_block::{BufView, let_go_all, make};
 use itoa::Buffer;

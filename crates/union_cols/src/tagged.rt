@@ -1,18 +1,20 @@
 //! The columns of a chunk as a union.
 ghost use Rattle.std.specs.Prelude.{◌≡◌, ◌≢◌, ◌+◌, ◌<◌, ◌≤◌, ◌≤ℤ◌, ℕ, pos, None, length, map, replicate, IfOk, IfErr, OnOk, MatchResult};
-ghost use Rattle.tree_model.specs.Tree.{IsLive, Live, Released, absent, child_at, children_of, trees};
-ghost use Rattle.raw_array.specs.Members.{Cost, members_of};
+ghost use Rattle.tree_model.specs.promise.TreeParts.{IsLive, child_at, children_of};
+ghost use Rattle.tree_model.specs.promise.TreeData.{Live, Released, absent, trees};
+ghost use Rattle.raw_array.specs.promise.Members.{Cost, members_of};
 ghost use Rattle.raw_array.specs.Windows.{FitsWindow};
 ghost use Rattle.arr_move.specs.TreeActs.{with_children};
-ghost use Rattle.raw_schema.specs.Members.{Nodes};
+ghost use Rattle.tree_model.specs.promise.TreeCost.{Nodes};
 ghost use Rattle.data_types.specs.KindTrees.{TypedOk};
-ghost use Rattle.data_types.specs.TypedView.{typed_of};
-ghost use Rattle.schema_check.specs.Schemas.{TypedOf};
-ghost use Rattle.layout_rules.specs.Values.{rows_of, tree_items};
-ghost use Rattle.layout_rules.specs.Walk.{ChunkOk};
-ghost use Rattle.unit_pass.specs.Tally.{risen};
-ghost use Rattle.union_cols.specs.Unions.{union_items};
-ghost use Rattle.union_cols.specs.Tags.{cut_columns, tag_blocks, tag_fault, tag_members, tag_of, tagged_array, tagged_items, tagged_kinds, tagged_members, tagged_schema};
+ghost use Rattle.data_types.specs.promise.TypedView.{typed_of};
+ghost use Rattle.schema_check.specs.promise.Schemas.{TypedOf};
+ghost use Rattle.layout_rules.specs.promise.Values.{rows_of, tree_items};
+ghost use Rattle.layout_rules.specs.promise.Walk.{ChunkOk};
+ghost use Rattle.unit_pass.specs.promise.Tally.{risen};
+ghost use Rattle.union_cols.specs.promise.Unions.{union_items};
+ghost use Rattle.union_cols.specs.promise.Tags.{tag_blocks, tag_fault, tag_of, tagged_items};
+ghost use Rattle.union_cols.specs.Tags.{cut_columns, tag_members, tagged_array, tagged_kinds, tagged_members, tagged_schema};
 ghost use Rattle.union_cols.specs.TagAnswers.{ChecksAsUnion, refused_tag};
 
 use crate::laws::tagged_chunks_are_unions;

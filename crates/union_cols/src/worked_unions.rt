@@ -1,16 +1,17 @@
 //! Small unions, computed from the definitions.
 ghost use Rattle.std.specs.Prelude.{◌≡◌, true, false, None, Some, [], ◌∷◌, pos, negsuc, codes};
-ghost use Rattle.data_types.specs.Value.Value.{Null, Whole, Bytes};
+ghost use Rattle.data_types.specs.promise.Value.Value.{Null, Whole, Bytes};
 ghost use Rattle.root_check.specs.declared.own.OwnRule.TheVariants as own;
 ghost use Rattle.layout_rules.specs.WorkedArrays.{buffer};
-ghost use Rattle.union_cols.specs.UnionRules.{union_fault, Own, BufferShort, BadTypeId, ChildShort, OffsetRange};
+ghost use Rattle.union_cols.specs.promise.UnionRules.{union_fault, Own, BufferShort, BadTypeId, ChildShort, OffsetRange};
 ghost use Rattle.union_cols.specs.WorkedUnions.{numbers_and_bytes, over_two, two_numbers, one_binary, some_binaries, starts, dense_union, dense_window};
 ghost use Rattle.union_cols.specs.WorkedUnions.{sparse_window, values_of_union, found, number_and_bytes, numbers_beside_bytes, shown};
-ghost use Rattle.layout_rules.specs.Values.{rows_of};
-ghost use Rattle.layout_rules.specs.Walk.{first_chunk_fault};
-ghost use Rattle.union_cols.specs.Unions.{union_items};
+ghost use Rattle.layout_rules.specs.promise.Values.{rows_of};
+ghost use Rattle.layout_rules.specs.promise.Walk.{first_chunk_fault};
+ghost use Rattle.union_cols.specs.promise.Unions.{union_items};
 ghost use Rattle.union_cols.specs.declared.tag_fault.TagFault.TheVariants as tags;
-ghost use Rattle.union_cols.specs.Tags.{start_bytes, tag_fault, tag_format, tagged_array, tagged_items, tagged_kinds};
+ghost use Rattle.union_cols.specs.promise.Tags.{tag_fault, tagged_items};
+ghost use Rattle.union_cols.specs.Tags.{start_bytes, tag_format, tagged_array, tagged_kinds};
 
 /// What the definitions say of small unions: their values, and the first fault ("Arrow Columnar Format", "Union Layout").
 pub fn small_unions()

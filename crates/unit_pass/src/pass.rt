@@ -1,6 +1,6 @@
 //! Desks, the passes that they give out, and units.
 ghost use Rattle.std.specs.Prelude.{◌≡◌, ◌+◌, ◌-◌, ◌*◌, ◌<◌, ◌≤◌};
-ghost use Rattle.unit_pass.specs.Tally.{risen, last_count};
+ghost use Rattle.unit_pass.specs.promise.Tally.{risen, last_count};
 ghost use Rattle.unit_pass.specs.declared.pass.TheConstants.{SUPPLY};
 
 use std::marker::Model;

@@ -7,8 +7,8 @@ use Rattle.std.specs.Prelude.{IfSome}
 use Rattle.arr_import.specs.Plain.{IsPlain, IsPlainStorage, ShowsItems, storage_in}
 use Rattle.arr_import.specs.Window.{Window, item_at}
 use Rattle.arr_import.specs.declared.plain.Plain.{Plain}
-use Rattle.data_types.specs.KindTrees.{kind_in}
-use Rattle.data_types.specs.Storage.{storage_of}
+use Rattle.data_types.specs.promise.KindTrees.{kind_in}
+use Rattle.data_types.specs.promise.Storage.{storage_of}
 use Rattle.arr_import.specs.declared.col.Col.{Col}
 use Rattle.value_text.specs.Fields.{ReadsAs}
 use Rattle.value_text.specs.declared.table.Field.{Field}

@@ -6,9 +6,9 @@ use Rattle.std.proofs.Math.Seq.{get_or-append_seam}
 use Rattle.std.proofs.Math.Nat.{suc-mul}
 use Rattle.std.specs.Prelude.{IfSome, None, Option, Some}
 use Rattle.std.specs.List.{flat_map}
-use Rattle.data_types.specs.Value.{Value, Null, Items, Fields, values}
-use Rattle.data_types.specs.ValueTexts.{value_line, value_text}
-use Rattle.layout_rules.specs.Values.{each}
+use Rattle.data_types.specs.promise.Value.{Value, Null, Items, Fields, values}
+use Rattle.data_types.specs.promise.ValueTexts.{value_line, value_text}
+use Rattle.layout_rules.specs.promise.Values.{each}
 use Rattle.value_text.specs.Behind.{item_text}
 use Rattle.value_text.specs.Lengths.{AreFieldLengths, AreSummed, Tells, IsReached, capped, field_length, first_fields, length_at, some_fields, text_length}
 use Rattle.value_text.specs.declared.lengths.Lengths.{Lengths}

@@ -5,10 +5,10 @@ use Rattle.std.proofs.lemmas.Grind.{flat_map-append}
 use Rattle.std.proofs.lemmas.List.{take_more, length-take-le}
 use Rattle.std.specs.List.{flat_map}
 use Rattle.unit_pass.specs.declared.no_memory.NoMemory.{NoMemory}
-use Rattle.data_types.specs.Value.{Value, values, Null}
-use Rattle.layout_rules.specs.Values.{each}
+use Rattle.data_types.specs.promise.Value.{Value, values, Null}
+use Rattle.layout_rules.specs.promise.Values.{each}
 use Rattle.value_text.specs.Behind.{item_text}
-use Rattle.data_types.specs.ValueTexts.{joined, value_line, value_text, value_texts}
+use Rattle.data_types.specs.promise.ValueTexts.{joined, value_line, value_text, value_texts}
 
 -- the joined texts of values
 abbrev pub parts : List Value → List ℕ

@@ -1,7 +1,7 @@
 -- How large a value is: each part of it is smaller.
 use Rattle.std.proofs.Common.{◌≡◌, ℕ, zero, suc, ◌+◌, ◌<◌, List, [], ◌∷◌, length, get_or, ap, arith}
-use Rattle.data_types.specs.Value.{Value, Values, values, Null, Truth, Whole, Bits, Bytes, Items, Fields, no_values, more_values}
-use Rattle.layout_rules.specs.Values.{each}
+use Rattle.data_types.specs.promise.Value.{Value, Values, values, Null, Truth, Whole, Bits, Bytes, Items, Fields, no_values, more_values}
+use Rattle.layout_rules.specs.promise.Values.{each}
 
 abbrev mutual
   pub value_size : Value → ℕ

@@ -1,7 +1,7 @@
 -- The parts of a list or a struct one by one.
 use Rattle.std.specs.Prelude.{ℕ, zero, suc, List, ◌∷◌}
-use Rattle.data_types.specs.Value.{Value}
-use Rattle.data_types.specs.ValueTexts.{value_text}
+use Rattle.data_types.specs.promise.Value.{Value}
+use Rattle.data_types.specs.promise.ValueTexts.{value_text}
 
 -- the text of the part of this number, behind a comma unless it is the first
 abbrev pub item_text : ℕ → Value → List ℕ

@@ -1,9 +1,9 @@
 -- How many bytes of a text stand as escapes, each of which has two bytes more than the byte that it stands for.
 use Rattle.std.specs.Prelude.{◌≡◌, ◌+◌, ◌≤◌, ◌<◌, ℕ, if◌then◌else◌, List, [], ◌∷◌, Vec, length, get_or, take}
 use Rattle.std.specs.Global.{Global}
-use Rattle.raw_array.specs.Members.{ArrayMembers}
-use Rattle.layout_rules.specs.Layout.{bytes, data_place}
-use Rattle.data_types.specs.ValueTexts.{is_plain}
+use Rattle.raw_array.specs.promise.Members.{ArrayMembers}
+use Rattle.layout_rules.specs.promise.Layout.{bytes, data_place}
+use Rattle.data_types.specs.promise.ValueTexts.{is_plain}
 
 abbrev pub escapes : List ℕ → ℕ
 escapes [] = 0

@@ -1,16 +1,19 @@
 -- How many bytes the texts of values have. What is longer than a text may be counts one more than that.
 use Rattle.std.specs.Prelude.{◌≡◌, ◌+◌, ◌*◌, ◌<◌, ◌≤◌, ℕ, zero, suc, min, List, [], ◌∷◌, get_or, length, vec_len}
-use Rattle.tree_model.specs.Tree.{Released, child_at, children_of, trees}
-use Rattle.raw_array.specs.Members.{ArrayTree, members_of}
-use Rattle.data_types.specs.KindTrees.{KindTree}
-use Rattle.data_types.specs.TypedView.{typed_of, kids_of}
+use Rattle.tree_model.specs.promise.TreeData.{Released, trees}
+use Rattle.tree_model.specs.promise.TreeParts.{child_at, children_of}
+use Rattle.raw_array.specs.promise.Members.{ArrayTree, members_of}
+use Rattle.data_types.specs.promise.KindTrees.{KindTree}
+use Rattle.data_types.specs.promise.TypedView.{typed_of}
+use Rattle.data_types.specs.TypedView.{kids_of}
 use Rattle.data_types.specs.declared.typed.Typed.{Typed}
-use Rattle.layout_rules.specs.Values.{child_item, each, listed, readers, row_items, tree_items, value_at}
-use Rattle.layout_rules.specs.Layout.{first}
-use Rattle.data_types.specs.Value.{Value, Null, Items, Fields, values}
+use Rattle.layout_rules.specs.promise.Values.{child_item, each, listed, readers, row_items, tree_items, value_at}
+use Rattle.layout_rules.specs.promise.Layout.{first}
+use Rattle.data_types.specs.promise.Value.{Value, Null, Items, Fields, values}
 use Rattle.data_types.specs.declared.storage.Storage.{Storage}
 use Rattle.data_types.specs.declared.storage.Storage.TheVariants as storages
-use Rattle.data_types.specs.ValueTexts.{text_limit, value_text}
+use Rattle.data_types.specs.promise.ValueTexts.{value_text}
+use Rattle.data_types.specs.ValueTexts.{text_limit}
 use Rattle.value_text.specs.declared.lengths.FieldSums.{FieldSums}
 use Rattle.value_text.specs.declared.lengths.Lengths.{Lengths}
 use Rattle.value_text.specs.declared.lengths.Lengths.TheVariants as all

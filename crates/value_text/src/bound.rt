@@ -1,10 +1,13 @@
 //! How long the texts of an array's items are at most, told by the numbers of items and the sizes of buffers alone: most arrays are
 //! so short that nothing has to be measured.
 ghost use Rattle.std.specs.Prelude.{◌≡◌, ◌+◌, ◌<◌, ◌≤◌, ℕ, length, map, get_or};
-ghost use Rattle.data_types.specs.KindTrees.{AllNodesOk, NodesOk, TypedOk, most_levels};
-ghost use Rattle.data_types.specs.TypedView.{typed_of};
-ghost use Rattle.layout_rules.specs.Walk.{LayoutOk};
-ghost use Rattle.tree_model.specs.Tree.{Depth, IsLive, Released, child_at, children_of, depth_of_all, trees};
+ghost use Rattle.data_types.specs.promise.KindTrees.{most_levels};
+ghost use Rattle.data_types.specs.KindTrees.{AllNodesOk, NodesOk, TypedOk};
+ghost use Rattle.data_types.specs.promise.TypedView.{typed_of};
+ghost use Rattle.layout_rules.specs.promise.Walk.{LayoutOk};
+ghost use Rattle.tree_model.specs.promise.TreeParts.{IsLive, child_at, children_of};
+ghost use Rattle.tree_model.specs.promise.TreeData.{Released, trees};
+ghost use Rattle.tree_model.specs.Tree.{Depth, depth_of_all};
 
 use arr_import::buffer_bytes;
 use data_types::{Storage, Typed, storage_of};

@@ -1,7 +1,7 @@
 //! A text whose length has a bound.
 ghost use Rattle.std.specs.Prelude.{◌≡◌, ◌+◌, ◌<◌, ◌≤◌, ◌++◌, ◌∷◌, [], OnOk, OnErr, length, vec_len};
 ghost use Rattle.std.specs.Fmt.{signed_decimal};
-ghost use Rattle.data_types.specs.FieldText.{last_digits};
+ghost use Rattle.data_types.specs.promise.FieldText.{last_digits};
 ghost use Rattle.data_types.specs.ValueTexts.{text_limit};
 
 use field_codec::{bits_text, whole_text};

@@ -1,11 +1,11 @@
 //! The lengths of texts, counted without the texts.
 ghost use Rattle.std.specs.Prelude.{◌≡◌, ◌+◌, ◌-◌, ◌*◌, ◌≤◌, ◌<◌, ◌++◌, true, ℕ, IfOk, IfSome, List, get_or, length};
-ghost use Rattle.data_types.specs.Value.{Value, values};
-ghost use Rattle.data_types.specs.Value.Value.{Bits, Bytes, Fields, Items, Truth, Whole};
-ghost use Rattle.layout_rules.specs.Values.{each};
+ghost use Rattle.data_types.specs.promise.Value.{Value, values};
+ghost use Rattle.data_types.specs.promise.Value.Value.{Bits, Bytes, Fields, Items, Truth, Whole};
+ghost use Rattle.layout_rules.specs.promise.Values.{each};
 ghost use Rattle.value_text.specs.Behind.{item_text};
 ghost use Rattle.value_text.specs.Lengths.{AreFieldLengths, AreLengths, AreSums, Tells, AreReached, IsReached, capped, some_fields, text_length};
-ghost use Rattle.data_types.specs.ValueTexts.{byte_text, bytes_text, lines_text};
+ghost use Rattle.data_types.specs.promise.ValueTexts.{byte_text, bytes_text, lines_text};
 
 use crate::escapes::is_plain;
 use field_codec::{bits_text, whole_text};

@@ -2,12 +2,13 @@
 ghost use Rattle.std.specs.Prelude.{◌≡◌, ◌≤◌, ◌++◌, IfOk, OnOk, vec_len};
 ghost use Rattle.std.specs.List.{flat_map};
 ghost use Rattle.data_types.specs.KindTrees.{TypedOk};
-ghost use Rattle.data_types.specs.TypedView.{typed_of};
-ghost use Rattle.layout_rules.specs.Values.{values_of};
-ghost use Rattle.layout_rules.specs.Walk.{LayoutOk};
+ghost use Rattle.data_types.specs.promise.TypedView.{typed_of};
+ghost use Rattle.layout_rules.specs.promise.Values.{values_of};
+ghost use Rattle.layout_rules.specs.promise.Walk.{LayoutOk};
 ghost use Rattle.arr_import.specs.Cols.{window_of};
 ghost use Rattle.arr_import.specs.Window.{items_of};
-ghost use Rattle.data_types.specs.ValueTexts.{lines_text, text_limit, value_line};
+ghost use Rattle.data_types.specs.promise.ValueTexts.{lines_text, value_line};
+ghost use Rattle.data_types.specs.ValueTexts.{text_limit};
 
 use crate::bound::text_bound;
 use crate::bounded::BoundedText;

@@ -1,17 +1,21 @@
 //! The lengths of the texts of an array's items, found before any text is made. Each item that the buffers of the array, of its
 //! children and of its dictionaries hold is measured once, however often it is written.
 ghost use Rattle.std.specs.Prelude.{◌≡◌, ◌+◌, ◌<◌, ◌≤◌, ◌^◌, ℕ, None, Some, IfOk, length, map, get_or};
-ghost use Rattle.data_types.specs.Value.{Value};
-ghost use Rattle.tree_model.specs.Tree.{Released, IsLive, Depth, depth_of_all, trees, child_at, children_of, dictionary_of};
+ghost use Rattle.data_types.specs.promise.Value.{Value};
+ghost use Rattle.tree_model.specs.promise.TreeData.{Released, trees};
+ghost use Rattle.tree_model.specs.promise.TreeParts.{IsLive, child_at, children_of, dictionary_of};
+ghost use Rattle.tree_model.specs.Tree.{Depth, depth_of_all};
 ghost use Rattle.data_types.specs.declared.typed.Typed.{out-Typed};
-ghost use Rattle.data_types.specs.KindTrees.{NodesOk, AllNodesOk, TypedOk, most_levels};
-ghost use Rattle.data_types.specs.TypedView.{typed_of, kids_of, dict_in};
-ghost use Rattle.layout_rules.specs.Values.{tree_items, value_at, values_of};
-ghost use Rattle.layout_rules.specs.Walk.{LayoutOk};
+ghost use Rattle.data_types.specs.promise.KindTrees.{most_levels};
+ghost use Rattle.data_types.specs.KindTrees.{NodesOk, AllNodesOk, TypedOk};
+ghost use Rattle.data_types.specs.promise.TypedView.{typed_of};
+ghost use Rattle.data_types.specs.TypedView.{kids_of, dict_in};
+ghost use Rattle.layout_rules.specs.promise.Values.{tree_items, value_at, values_of};
+ghost use Rattle.layout_rules.specs.promise.Walk.{LayoutOk};
 ghost use Rattle.arr_import.specs.Cols.{window_of};
 ghost use Rattle.arr_import.specs.Window.{whole};
 ghost use Rattle.value_text.specs.Lengths.{AreSums, Tells, TellsKids, IsNested, capped, text_length};
-ghost use Rattle.data_types.specs.ValueTexts.{lines_text};
+ghost use Rattle.data_types.specs.promise.ValueTexts.{lines_text};
 
 use crate::lengths::{
     FieldSums, Lengths, bits_length, bytes_length, field_sums, lines_length, truth_length,

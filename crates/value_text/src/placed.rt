@@ -1,20 +1,22 @@
 //! Where the parts of an item stand: its index, the items of a list, the fields of a struct, and how long the text is that they make.
 ghost use Rattle.std.specs.Prelude.{◌≡◌, ◌+◌, ◌-◌, ◌*◌, ◌/◌, ◌^◌, ◌<◌, ◌≤◌, ◌≤ℤ◌, ℕ, pos, true, false, IfSome, IfNone, None, Some, length, get_or};
-ghost use Rattle.data_types.specs.Storage.{storage_of as storage_is};
-ghost use Rattle.data_types.specs.Value.{values};
-ghost use Rattle.data_types.specs.Value.Value.{Fields, Items, Null};
+ghost use Rattle.data_types.specs.promise.Storage.{storage_of as storage_is};
+ghost use Rattle.data_types.specs.promise.Value.{values};
+ghost use Rattle.data_types.specs.promise.Value.Value.{Fields, Items, Null};
 ghost use Rattle.data_types.specs.declared.storage.Storage.TheVariants as storages;
-ghost use Rattle.tree_model.specs.Tree.{Released, child_at, children_of, dictionary_of, trees};
-ghost use Rattle.raw_array.specs.Members.{members_of};
+ghost use Rattle.tree_model.specs.promise.TreeData.{Released, trees};
+ghost use Rattle.tree_model.specs.promise.TreeParts.{child_at, children_of, dictionary_of};
+ghost use Rattle.raw_array.specs.promise.Members.{members_of};
 ghost use Rattle.data_types.specs.declared.typed.Typed.{out-Typed};
 ghost use Rattle.data_types.specs.KindTrees.{NodesOk};
-ghost use Rattle.data_types.specs.TypedView.{typed_of, kind_of, kids_of, dict_in};
-ghost use Rattle.layout_rules.specs.Layout.{buffer, bytes, first, is_valid as is_valid_at, natural, stored_number};
-ghost use Rattle.layout_rules.specs.Values.{child_item, each, listed, readers, row_items, tree_items, value_at};
-ghost use Rattle.layout_rules.specs.Walk.{LayoutOk};
+ghost use Rattle.data_types.specs.promise.TypedView.{typed_of};
+ghost use Rattle.data_types.specs.TypedView.{kind_of, kids_of, dict_in};
+ghost use Rattle.layout_rules.specs.promise.Layout.{buffer, bytes, first, is_valid as is_valid_at, natural, stored_number};
+ghost use Rattle.layout_rules.specs.promise.Values.{child_item, each, listed, readers, row_items, tree_items, value_at};
+ghost use Rattle.layout_rules.specs.promise.Walk.{LayoutOk};
 ghost use Rattle.arr_import.specs.StoredItems.{AreItemsThere, IsIndexThere, IsListStorage, IsThere};
 ghost use Rattle.arr_import.specs.Window.{index_at as index_in};
-ghost use Rattle.layout_rules.specs.Rules.{window_limit};
+ghost use Rattle.layout_rules.specs.promise.Rules.{window_limit};
 ghost use Rattle.value_text.specs.Lengths.{AreSums, TellsKids, ArePartsStorage, IsEmptyStorage, IsNested, IsNestedAt, text_length};
 
 use crate::lengths::{FieldSums, Lengths, list_length, row_length, same_list, same_row};

@@ -1,15 +1,15 @@
 //! The rows of a struct column, the columns of whose fields are looked up once.
 ghost use Rattle.std.specs.Prelude.{◌≡◌, None, true, ◌+◌, ◌<◌, ◌++◌, ◌^◌, ℕ, All, IfOk, OnOk, if◌then◌else◌, get_or, length, map};
 ghost use Rattle.std.specs.List.{flat_map};
-ghost use Rattle.data_types.specs.Value.{values};
-ghost use Rattle.data_types.specs.Value.Value.{Fields, Null};
-ghost use Rattle.tree_model.specs.Tree.{dictionary_of};
-ghost use Rattle.data_types.specs.TypedView.{typed_of};
-ghost use Rattle.layout_rules.specs.Values.{row_items};
+ghost use Rattle.data_types.specs.promise.Value.{values};
+ghost use Rattle.data_types.specs.promise.Value.Value.{Fields, Null};
+ghost use Rattle.tree_model.specs.promise.TreeParts.{dictionary_of};
+ghost use Rattle.data_types.specs.promise.TypedView.{typed_of};
+ghost use Rattle.layout_rules.specs.promise.Values.{row_items};
 ghost use Rattle.arr_import.specs.Cols.{window_of};
 ghost use Rattle.arr_import.specs.Window.{IsStruct, item_at, items_of};
 ghost use Rattle.arr_import.specs.Plain.{IsItemThere, IsPlainStorage, is_valid_in, storage_in, valid_item};
-ghost use Rattle.data_types.specs.ValueTexts.{value_line, value_text};
+ghost use Rattle.data_types.specs.promise.ValueTexts.{value_line, value_text};
 ghost use Rattle.value_text.specs.Behind.{item_text};
 ghost use Rattle.value_text.specs.Fields.{IsRead};
 ghost use Rattle.value_text.specs.declared.table.Field.{Field as AField};

@@ -1,11 +1,11 @@
 //! The text of an item of a column, appended to a text.
 ghost use Rattle.std.specs.Prelude.{◌≡◌, ◌+◌, ◌<◌, ◌++◌, ◌^◌, pos, OnOk};
-ghost use Rattle.data_types.specs.Value.{Value, values};
-ghost use Rattle.data_types.specs.Value.Value.{Fields, Items, Null, Truth, Whole, Bits, Bytes};
-ghost use Rattle.layout_rules.specs.Values.{row_items};
+ghost use Rattle.data_types.specs.promise.Value.{Value, values};
+ghost use Rattle.data_types.specs.promise.Value.Value.{Fields, Items, Null, Truth, Whole, Bits, Bytes};
+ghost use Rattle.layout_rules.specs.promise.Values.{row_items};
 ghost use Rattle.arr_import.specs.Cols.{window_of};
 ghost use Rattle.arr_import.specs.Window.{IsStruct, item_at, items_of};
-ghost use Rattle.data_types.specs.ValueTexts.{value_text};
+ghost use Rattle.data_types.specs.promise.ValueTexts.{value_text};
 ghost use Rattle.value_text.specs.Behind.{item_text};
 
 use crate::bounded::BoundedText;

@@ -2,21 +2,22 @@
 //! any number of times; a data buffer's bytes are read once.
 ghost use Rattle.std.specs.Prelude.{◌≡◌, ◌+◌, ◌*◌, ◌<◌, ◌≤◌, ◌^◌, ℕ, List, IfOk, if◌then◌else◌, None, true, drop, get_or, length, take};
 ghost use Rattle.data_types.specs.KindTrees.{NodesOk, TypedOk};
-ghost use Rattle.data_types.specs.Packed.{meant, number_at};
-ghost use Rattle.data_types.specs.Storage.{storage_of as storage_is};
-ghost use Rattle.data_types.specs.TypedView.{dict_in, kind_of, typed_of};
-ghost use Rattle.data_types.specs.Value.Value.{Bytes};
-ghost use Rattle.data_types.specs.ValueTexts.{is_plain};
+ghost use Rattle.data_types.specs.promise.Packed.{meant, number_at};
+ghost use Rattle.data_types.specs.promise.Storage.{storage_of as storage_is};
+ghost use Rattle.data_types.specs.promise.TypedView.{typed_of};
+ghost use Rattle.data_types.specs.TypedView.{dict_in, kind_of};
+ghost use Rattle.data_types.specs.promise.Value.Value.{Bytes};
+ghost use Rattle.data_types.specs.promise.ValueTexts.{is_plain};
 ghost use Rattle.data_types.specs.declared.typed.Typed.{out-Typed};
 ghost use Rattle.arr_import.specs.StoredItems.{IsViewStorage};
-ghost use Rattle.layout_rules.specs.Layout.{bytes, data_buffers, data_place, is_valid as is_valid_at, view_width};
-ghost use Rattle.layout_rules.specs.Values.{tree_items, value_at};
-ghost use Rattle.layout_rules.specs.Views.{view_data};
-ghost use Rattle.layout_rules.specs.Walk.{LayoutOk};
+ghost use Rattle.layout_rules.specs.promise.Layout.{bytes, data_buffers, data_place, is_valid as is_valid_at, view_width};
+ghost use Rattle.layout_rules.specs.promise.Values.{tree_items, value_at};
+ghost use Rattle.layout_rules.specs.promise.Views.{view_data};
+ghost use Rattle.layout_rules.specs.promise.Walk.{LayoutOk};
 ghost use Rattle.layout_rules.specs.Within.{DataWithin};
-ghost use Rattle.layout_rules.specs.Rules.{window_limit};
-ghost use Rattle.raw_array.specs.Members.{members_of};
-ghost use Rattle.tree_model.specs.Tree.{IsLive};
+ghost use Rattle.layout_rules.specs.promise.Rules.{window_limit};
+ghost use Rattle.raw_array.specs.promise.Members.{members_of};
+ghost use Rattle.tree_model.specs.promise.TreeParts.{IsLive};
 ghost use Rattle.value_text.specs.Escapes.{AreEscapeCounts, CountsEscapes};
 ghost use Rattle.value_text.specs.Lengths.{Tells, text_length};
 

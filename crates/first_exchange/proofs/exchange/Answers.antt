@@ -1,6 +1,7 @@
 use Rattle.std.proofs.Common.{ap, arith}
-use Rattle.raw_array.specs.Members.{Cost, LeastAmount}
-use Rattle.raw_schema.specs.Members.{Nodes}
+use Rattle.raw_array.specs.promise.Members.{Cost}
+use Rattle.raw_array.specs.Members.{LeastAmount}
+use Rattle.tree_model.specs.promise.TreeCost.{Nodes}
 use Rattle.first_exchange.proofs.People.{people-cost, people-whole, schema-cost}
 use Rattle.first_exchange.proofs.exchange.Goals as goal
 

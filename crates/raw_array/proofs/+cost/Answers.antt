@@ -1,7 +1,8 @@
 use Rattle.std.proofs.Common.{rules, ap, arith}
 use Rattle.raw_place.specs.Kept.{values_of}
-use Rattle.tree_model.specs.Tree.{Released, Depth}
-use Rattle.raw_array.specs.Members.{Cost, holds}
+use Rattle.tree_model.specs.promise.TreeData.{Released}
+use Rattle.tree_model.specs.Tree.{Depth}
+use Rattle.raw_array.specs.promise.Members.{Cost, holds}
 use Rattle.tree_model.proofs.Measures.{Depth-get_or, cost_of_all-take}
 use Rattle.raw_array.proofs.+cost.Goals as goal
 

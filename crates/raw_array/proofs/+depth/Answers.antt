@@ -1,6 +1,7 @@
 use Rattle.std.proofs.Common.{rules, ap, arith}
 use Rattle.raw_place.specs.Kept.{values_of}
-use Rattle.tree_model.specs.Tree.{Released, Depth}
+use Rattle.tree_model.specs.promise.TreeData.{Released}
+use Rattle.tree_model.specs.Tree.{Depth}
 use Rattle.tree_model.proofs.Measures.{Depth-get_or, depth_of_all-take}
 use Rattle.raw_array.proofs.+depth.Goals as goal
 

@@ -1,6 +1,7 @@
 use Rattle.std.proofs.Common.{◌≡◌, ◌+◌, ◌*◌, ◌≤◌, take}
 use Rattle.raw_place.specs.Kept.{values_of}
-use Rattle.tree_model.specs.Tree.{Depth, trees, depth_of_all}
+use Rattle.tree_model.specs.promise.TreeData.{trees}
+use Rattle.tree_model.specs.Tree.{Depth, depth_of_all}
 use Rattle.raw_array.proofs.+depth.Given as goal
 
 abbrev pub decreases-array::RawArray::depth : goal.decreases-array::RawArray::depth

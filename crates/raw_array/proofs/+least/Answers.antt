@@ -2,8 +2,9 @@ use Rattle.std.proofs.Common.{rules, ap, arith}
 use Rattle.raw_place.specs.Kept.{values_of}
 use Rattle.tree_model.specs.Tree.{Depth}
 use Rattle.tree_model.proofs.Measures.{Depth-get_or, least_of_all-take}
-use Rattle.tree_model.specs.Tree.{Released}
-use Rattle.raw_array.specs.Members.{LeastAmount, whole, least}
+use Rattle.tree_model.specs.promise.TreeData.{Released}
+use Rattle.raw_array.specs.promise.Members.{whole}
+use Rattle.raw_array.specs.Members.{LeastAmount, least}
 use Rattle.raw_array.proofs.+least.Goals as goal
 
 pub measures::least_below-least_amount-requires : goal.measures::least_below-least_amount-requires

@@ -1,7 +1,9 @@
 use Rattle.std.proofs.Common.{◌≡◌, ◌+◌, ◌*◌, ◌≤◌, take}
 use Rattle.raw_place.specs.Kept.{values_of}
-use Rattle.tree_model.specs.Tree.{Depth, trees, depth_of_all}
-use Rattle.raw_array.specs.Members.{least_of_all, whole}
+use Rattle.tree_model.specs.promise.TreeData.{trees}
+use Rattle.tree_model.specs.Tree.{Depth, depth_of_all}
+use Rattle.raw_array.specs.promise.Members.{whole}
+use Rattle.raw_array.specs.Members.{least_of_all}
 use Rattle.raw_array.proofs.+least.Given as goal
 
 abbrev pub decreases-array::RawArray::least_amount : goal.decreases-array::RawArray::least_amount

@@ -2,10 +2,13 @@ use Rattle.raw_array.proofs.Shares.{OneLower-lowered, AllOneLower-same, MaybeOne
 use Rattle.std.proofs.Common.{◌≡◌, ◌+◌, ◌<◌, length, take, ap, sym, subst, ◌∙◌, arith, refl, Bool, true, false, ℕ, Result, Ok, Err, get_or, set}
 use Rattle.std.proofs.Math.Seq.{take-length}
 use Rattle.raw_place.specs.Kept.{values_of, value_if, value_of}
-use Rattle.tree_model.specs.Tree.{Depth, trees, present, maybe_tree, Released, Live, depth_of_maybe}
+use Rattle.tree_model.specs.promise.TreeData.{trees, present, maybe_tree, Released, Live}
+use Rattle.tree_model.specs.Tree.{Depth, depth_of_maybe}
 use Rattle.tree_model.proofs.Measures.{Depth-get_or, cost_of_all-before, cost_of_all-take, Least-get_or}
-use Rattle.raw_array.specs.Members.{Bounded, Cost, cost_of_all, LeastAmount, holds, whole, least, OneLower, MaybeOneLower, ShareOf, Lowered, cost_of_maybe}
-use Rattle.raw_array.specs.Members.{least_of_maybe, OneLowerBuffers, AllOneLower, holds_of}
+use Rattle.raw_array.specs.promise.Members.{Cost, holds, whole}
+use Rattle.raw_array.specs.Members.{Bounded, cost_of_all, LeastAmount, least, OneLower, MaybeOneLower, ShareOf, Lowered, cost_of_maybe}
+use Rattle.raw_array.specs.promise.Members.{holds_of}
+use Rattle.raw_array.specs.Members.{least_of_maybe, OneLowerBuffers, AllOneLower}
 use Rattle.raw_array.specs.View.{tree_of, tree_of_node, buffers_of}
 use Rattle.raw_array.proofs.Bounds.{Bounded-shared, Bounded-lowered, Bounded-one_lower}
 use Rattle.raw_array.proofs.Children.{same_length, same_child, all_one_lower, child_lowered, child_shared, all_lowered, all_one_lower_at_end, all_shared}

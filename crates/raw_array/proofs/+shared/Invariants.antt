@@ -1,6 +1,7 @@
 use Rattle.std.proofs.Common.{◌≡◌, ◌+◌, ◌*◌, ◌-◌, ◌≤◌, map, take, get_or, length, vec_len, vec_capacity}
 use Rattle.raw_place.specs.Kept.{values_of, value_if}
-use Rattle.tree_model.specs.Tree.{Released, Depth, trees, maybe_tree, depth_of_all, depth_of_maybe, map_tree}
+use Rattle.tree_model.specs.promise.TreeData.{Released, trees, maybe_tree}
+use Rattle.tree_model.specs.Tree.{Depth, depth_of_all, depth_of_maybe, map_tree}
 use Rattle.tree_model.proofs.SoFar.{so_far}
 use Rattle.raw_array.specs.Members.{cost_of_all, shared_members, lowered_members}
 use Rattle.raw_array.specs.View.{tree_of_node}

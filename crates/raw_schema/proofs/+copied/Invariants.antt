@@ -1,6 +1,7 @@
 use Rattle.std.proofs.Common.{◌≡◌, ◌+◌, ◌*◌, ◌-◌, take}
 use Rattle.raw_place.specs.Kept.{values_of, value_if}
-use Rattle.tree_model.specs.Tree.{Depth, trees, maybe_tree, depth_of_all, depth_of_maybe}
+use Rattle.tree_model.specs.promise.TreeData.{trees, maybe_tree}
+use Rattle.tree_model.specs.Tree.{Depth, depth_of_all, depth_of_maybe}
 use Rattle.raw_schema.specs.Members.{nodes_of_all}
 use Rattle.raw_schema.specs.View.{tree_of_node}
 use Rattle.raw_schema.proofs.+copied.Given as goal

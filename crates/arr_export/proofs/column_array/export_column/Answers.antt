@@ -1,6 +1,6 @@
 use Rattle.std.proofs.Common.{◌≡◌, ◌∙◌, ap, arith, rules}
-use Rattle.raw_array.specs.Members.{Cost}
-use Rattle.arr_export.specs.ArrayTrees.{column_tree}
+use Rattle.raw_array.specs.promise.Members.{Cost}
+use Rattle.arr_export.specs.promise.ArrayTrees.{column_tree}
 use Rattle.arr_export.proofs.Parts.{column-cost, column-made, dictionary-depth, few-buffers}
 use Rattle.arr_export.proofs.column_array.export_column.Goals as goal
 

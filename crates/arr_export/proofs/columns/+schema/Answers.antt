@@ -3,10 +3,14 @@ use Rattle.std.proofs.lemmas.List.{length-map}
 use Rattle.data_types.specs.ColumnView.{kind_of}
 use Rattle.data_types.specs.declared.kind.ColKind.{ColKind}
 use Rattle.data_types.specs.declared.kind.ColumnType.{ColumnType}
-use Rattle.tree_model.specs.Tree.{Depth, absent, trees}
+use Rattle.tree_model.specs.promise.TreeData.{absent, trees}
+use Rattle.tree_model.specs.Tree.{Depth}
 use Rattle.tree_model.proofs.Measures.{cost_of_all-append}
-use Rattle.raw_schema.specs.Members.{Nodes, SchemaTree, no_holds, nodes_of_all}
-use Rattle.schema_check.specs.ColumnSchema.{KindsOk, column_schema, node, nullable, struct_format}
+use Rattle.tree_model.specs.promise.TreeCost.{Nodes, no_holds}
+use Rattle.raw_schema.specs.promise.Members.{SchemaTree}
+use Rattle.raw_schema.specs.Members.{nodes_of_all}
+use Rattle.schema_check.specs.promise.ColumnSchema.{column_schema, node, nullable, struct_format}
+use Rattle.schema_check.specs.ColumnSchema.{KindsOk}
 use Rattle.arr_export.specs.CodeSchema.{ColumnsOk, code_schema, code_schemas}
 use Rattle.arr_export.proofs.Costs.{depth-here, few-columns, map-more, nodes-here}
 use Rattle.arr_export.proofs.Rows.{struct-kinds, struct-schema}

@@ -1,10 +1,11 @@
 use Rattle.std.proofs.Common.{◌≡◌, ◌≤◌, ◌+◌, ◌*◌, map, take, length, vec_len}
 use Rattle.std.specs.Vec.{vec_capacity}
-use Rattle.unit_pass.specs.Tally.{risen}
+use Rattle.unit_pass.specs.promise.Tally.{risen}
 use Rattle.data_types.specs.ColumnView.{kind_of}
-use Rattle.tree_model.specs.Tree.{Depth, depth_of_all, trees}
+use Rattle.tree_model.specs.promise.TreeData.{trees}
+use Rattle.tree_model.specs.Tree.{Depth, depth_of_all}
 use Rattle.raw_schema.specs.Members.{nodes_of_all}
-use Rattle.schema_check.specs.ColumnSchema.{column_schema}
+use Rattle.schema_check.specs.promise.ColumnSchema.{column_schema}
 use Rattle.arr_export.specs.CodeSchema.{code_schema, code_schemas}
 use Rattle.arr_export.proofs.columns.+schema.Given as goal
 

@@ -1,5 +1,5 @@
 use Rattle.std.proofs.Common.{arith}
-use Rattle.layout_rules.specs.Layout.{natural}
+use Rattle.layout_rules.specs.promise.Layout.{natural}
 use Rattle.arr_export.proofs.Parts.{columns-depth}
 use Rattle.arr_export.proofs.table_array.export_table.Goals as goal
 

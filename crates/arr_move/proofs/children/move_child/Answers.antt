@@ -1,5 +1,5 @@
 use Rattle.std.proofs.Common.{arith, ap, w64, to_z, of_z}
-use Rattle.tree_model.specs.Tree.{trees}
+use Rattle.tree_model.specs.promise.TreeData.{trees}
 use Rattle.raw_array.specs.Members.{cost_of_all}
 use Rattle.arr_move.proofs.MovedChildren.{cost-cut, cost-push}
 use Rattle.arr_move.proofs.children.move_child.Goals as goal

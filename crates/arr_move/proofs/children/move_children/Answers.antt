@@ -1,7 +1,8 @@
 use Rattle.std.proofs.Common.{arith, ◌<◌, ◌≤◌, ◌∙◌, length, ap, w64, to_z, of_z}
 use Rattle.std.proofs.lemmas.Int.{ints}
 use Rattle.std.proofs.lemmas.List.{length-set}
-use Rattle.tree_model.specs.Tree.{Released, children_of, child_at}
+use Rattle.tree_model.specs.promise.TreeData.{Released}
+use Rattle.tree_model.specs.promise.TreeParts.{children_of, child_at}
 use Rattle.arr_move.proofs.MovedChildren.{at-place, children-set, fits-same, items-next, rest-taken}
 use Rattle.arr_move.proofs.children.move_children.Goals as goal
 

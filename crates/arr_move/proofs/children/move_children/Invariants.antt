@@ -1,6 +1,8 @@
 use Rattle.std.proofs.Common.{◌≡◌, ◌+◌, ◌-◌, ◌≤◌, ◌++◌, map, take, drop, length, vec_len, vec_capacity}
-use Rattle.tree_model.specs.Tree.{children_of, trees}
-use Rattle.raw_array.specs.Members.{Cost, cost_of_all}
+use Rattle.tree_model.specs.promise.TreeParts.{children_of}
+use Rattle.tree_model.specs.promise.TreeData.{trees}
+use Rattle.raw_array.specs.promise.Members.{Cost}
+use Rattle.raw_array.specs.Members.{cost_of_all}
 use Rattle.arr_move.proofs.MovedChildren.{cut_to}
 use Rattle.arr_move.proofs.children.move_children.Given as goal
 

@@ -1,5 +1,5 @@
 use Rattle.std.proofs.Common.{◌≡◌, vec_len}
-use Rattle.raw_array.specs.Members.{holds_of}
+use Rattle.raw_array.specs.promise.Members.{holds_of}
 use Rattle.raw_array.specs.View.{buffers_of}
 use Rattle.arr_move.proofs.columns.discard_buffers.Given as goal
 

@@ -1,7 +1,7 @@
 use Rattle.std.proofs.Common.{◌≡◌, map, ap, ◌∙◌, arith, w64, to_z, of_z}
 use Rattle.std.proofs.lemmas.Int.{ints}
-use Rattle.raw_array.specs.Members.{Cost, members_of}
-use Rattle.tree_model.specs.Tree.{Live, trees, absent}
+use Rattle.raw_array.specs.promise.Members.{Cost, members_of}
+use Rattle.tree_model.specs.promise.TreeData.{Live, trees, absent}
 use Rattle.arr_move.specs.TreeActs.{Columns, cut, struct_members, with_children}
 use Rattle.arr_move.proofs.Fewer.{picks_le-children}
 use Rattle.arr_move.proofs.columns.take_columns.Goals as goal

@@ -1,6 +1,6 @@
 use Rattle.std.proofs.Common.{◌≡◌, ℕ, ◌+◌, ◌<◌, ◌≤◌, map, take, get_or, length}
-use Rattle.tree_model.specs.Tree.{children_of, child_at}
-use Rattle.raw_schema.specs.Members.{Nodes}
+use Rattle.tree_model.specs.promise.TreeParts.{children_of, child_at}
+use Rattle.tree_model.specs.promise.TreeCost.{Nodes}
 use Rattle.arr_move.specs.TreeActs.{with_children}
 use Rattle.arr_move.proofs.Filled.{filled}
 use Rattle.arr_move.proofs.fields.move_fields.Given as goal

@@ -1,5 +1,7 @@
 use Rattle.std.proofs.Common.{◌≡◌, ap, sym, ◌∙◌, rules}
-use Rattle.tree_model.specs.Tree.{Released, child_at, with_child}
+use Rattle.tree_model.specs.promise.TreeData.{Released}
+use Rattle.tree_model.specs.promise.TreeParts.{child_at}
+use Rattle.tree_model.specs.Tree.{with_child}
 use Rattle.arr_move.proofs.Moving.{other_child}
 use Rattle.arr_move.proofs.Vacant.{with_own_child}
 use Rattle.arr_move.specs.Fields.{new_or_old}

@@ -1,6 +1,7 @@
 use Rattle.std.proofs.Common.{◌≡◌, ◌<◌, suc, ◌+◌, length, take, refl, ap, sym, ◌∙◌, arith}
 use Rattle.std.proofs.Math.Seq.{take-length}
-use Rattle.tree_model.specs.Tree.{Depth, children_of, with_child}
+use Rattle.tree_model.specs.promise.TreeParts.{children_of}
+use Rattle.tree_model.specs.Tree.{Depth, with_child}
 use Rattle.arr_move.specs.TreeActs.{with_children}
 use Rattle.arr_move.proofs.Filled.{Depth-child_at}
 use Rattle.arr_move.proofs.Moving.{with_own_children}

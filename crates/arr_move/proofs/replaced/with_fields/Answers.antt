@@ -1,5 +1,5 @@
 use Rattle.std.proofs.Common.{length, ap, ◌∙◌}
-use Rattle.tree_model.specs.Tree.{children_of}
+use Rattle.tree_model.specs.promise.TreeParts.{children_of}
 use Rattle.arr_move.specs.TreeActs.{with_children}
 use Rattle.arr_move.specs.Fields.{fields_over}
 use Rattle.arr_move.proofs.Over.{top-fields, top-schema}

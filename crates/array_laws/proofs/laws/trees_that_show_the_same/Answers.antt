@@ -1,5 +1,5 @@
 use Rattle.std.proofs.Common.{sym, ap, ◌∙◌}
-use Rattle.layout_rules.specs.Values.{rows_of, values_of}
+use Rattle.layout_rules.specs.promise.Values.{rows_of, values_of}
 use Rattle.array_laws.proofs.SharedPieces.{same-items}
 use Rattle.array_laws.proofs.ShownItems.{rows-shown, values-shown}
 use Rattle.array_laws.proofs.ShownWalk.{same-chunk, same-chunk_fault, same-fault, same-lawful}

@@ -1,9 +1,9 @@
 use Rattle.std.proofs.Common.{◌≡◌}
-use Rattle.data_types.specs.FieldText.{form_of}
+use Rattle.data_types.specs.promise.FieldText.{form_of}
 use Rattle.data_types.specs.declared.kind.DataType.{DataType}
 use Rattle.col_build.specs.Encoding.{HasForm}
-use Rattle.tree_model.specs.Tree.{Live, no_trees, absent}
-use Rattle.data_types.specs.TypedView.{typed_of}
+use Rattle.tree_model.specs.promise.TreeData.{Live, no_trees, absent}
+use Rattle.data_types.specs.promise.TypedView.{typed_of}
 use Rattle.array_laws.proofs.AllItems.{each-fits, fewer-fit, items-fit, lawful, once-fit, whole-fits}
 use Rattle.array_laws.proofs.values.lawful_values_fit.Goals as goal
 

@@ -1,5 +1,5 @@
 use Rattle.std.proofs.Common.{◌≡◌, ◌∙◌, ◌++◌, ◌+◌, take, drop, ap, rules, List, ℕ}
-use Rattle.data_types.specs.Packed.{number_at, stored, le_bytes}
+use Rattle.data_types.specs.promise.Packed.{number_at, stored, le_bytes}
 use Rattle.bit_pack.proofs.NumberFacts.{number_back, number_elsewhere, meant_back, whole_back, stored_bound}
 use Rattle.bit_pack.proofs.numbers.put_int.Goals as goal
 

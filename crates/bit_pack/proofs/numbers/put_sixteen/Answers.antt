@@ -1,6 +1,6 @@
 use Rattle.std.proofs.Common.{◌+◌, ◌-◌, ◌∙◌, refl, arith}
 use Rattle.std.proofs.lemmas.Slice.{put_mid-paste}
-use Rattle.data_types.specs.Packed.{le_bytes}
+use Rattle.data_types.specs.promise.Packed.{le_bytes}
 use Rattle.bit_pack.proofs.Sixteen.{le_bytes_16}
 use Rattle.bit_pack.proofs.numbers.put_sixteen.Goals as goal
 

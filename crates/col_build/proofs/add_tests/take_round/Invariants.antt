@@ -1,5 +1,5 @@
 use Rattle.std.proofs.Common.{◌≤◌, List, length}
-use Rattle.data_types.specs.Value.{Value}
+use Rattle.data_types.specs.promise.Value.{Value}
 use Rattle.col_build.specs.Holding.{Holds}
 use Rattle.col_build.proofs.add_tests.take_round.Given as goal
 

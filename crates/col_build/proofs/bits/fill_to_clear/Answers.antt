@@ -1,5 +1,5 @@
 use Rattle.std.proofs.Common.{◌≡◌, ◌+◌, ◌-◌, ◌*◌, ◌/◌, ◌%◌, ◌^◌, ◌∙◌, ◌++◌, ◌∷◌, [], ℕ, true, false, List, replicate, arith, rules, ap, sym}
-use Rattle.col_build.specs.Encoding.{bit_bytes}
+use Rattle.col_build.specs.promise.Encoding.{bit_bytes}
 use Rattle.col_build.proofs.BitBytes.{bits-filled}
 use Rattle.col_build.proofs.bits.fill_to_clear.Goals as goal
 

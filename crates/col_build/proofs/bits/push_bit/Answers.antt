@@ -1,6 +1,6 @@
 use Rattle.std.proofs.Common.{◌≡◌, ◌≢◌, ◌+◌, ◌*◌, ◌/◌, ◌%◌, ◌^◌, ◌∙◌, ◌++◌, ◌∷◌, [], ℕ, Bool, List, arith, rules, ap, sym, length, get_or, set}
 use Rattle.std.proofs.lemmas.List.{get_or_read, set-get_or}
-use Rattle.col_build.specs.Encoding.{bit_bytes, bit_value}
+use Rattle.col_build.specs.promise.Encoding.{bit_bytes, bit_value}
 use Rattle.col_build.proofs.BitBytes.{bits-begin, bits-more, ends-within, mask, EndsWithin}
 use Rattle.col_build.proofs.bits.push_bit.Goals as goal
 

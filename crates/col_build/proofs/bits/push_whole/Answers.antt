@@ -1,5 +1,5 @@
 use Rattle.std.proofs.Common.{◌≡◌, ◌∙◌, ◌*◌, ◌/◌, ◌++◌, ℕ, List, append-nil, arith, ap, sym, replicate}
-use Rattle.col_build.specs.Encoding.{bit_bytes}
+use Rattle.col_build.specs.promise.Encoding.{bit_bytes}
 use Rattle.col_build.proofs.BitBytes.{bits-whole, full_byte}
 use Rattle.col_build.proofs.bits.push_whole.Goals as goal
 use Rattle.col_build.proofs.bits.push_whole.Goals.{then-flag, else-flag}

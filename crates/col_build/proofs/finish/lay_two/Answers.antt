@@ -1,7 +1,7 @@
 use Rattle.std.proofs.Common.{List, Option, refl, sym, subst, arith}
 use Rattle.buf_block.specs.declared.hold.BufView.{BufView}
 use Rattle.col_build.specs.Blocks.{IsAdded}
-use Rattle.col_build.specs.Encoding.{if_some}
+use Rattle.col_build.specs.promise.Encoding.{if_some}
 use Rattle.col_build.proofs.finish.lay_two.Goals as goal
 
 -- ---- the second block wasn't made, and the first is taken back

@@ -1,5 +1,5 @@
 use Rattle.std.proofs.Common.{◌∙◌, ◌++◌, ◌%◌, ◌/◌, ◌^◌, ℕ, List, refl, sym, ap, append_assoc}
-use Rattle.data_types.specs.Packed.{le_bytes}
+use Rattle.data_types.specs.promise.Packed.{le_bytes}
 use Rattle.col_build.proofs.Halves.{halves}
 use Rattle.col_build.proofs.numbers.append_sixteen.Goals as goal
 

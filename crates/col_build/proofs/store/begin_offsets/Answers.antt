@@ -1,6 +1,6 @@
 use Rattle.std.proofs.Common.{◌≡◌, ◌∙◌, [], sym}
 use Rattle.std.specs.Prelude.{None}
-use Rattle.data_types.specs.Packed.{le_bytes, offset_width}
+use Rattle.data_types.specs.promise.Packed.{le_bytes, offset_width}
 use Rattle.col_build.proofs.OffsetBytes.{offsets-first}
 use Rattle.col_build.proofs.StoredFacts.{no-items, where-stored}
 use Rattle.col_build.proofs.store.begin_offsets.Goals as goal

@@ -1,6 +1,6 @@
 use Rattle.std.proofs.Common.{◌∙◌, ◌++◌, List, ℕ, ap, sym, inl}
 use Rattle.std.specs.Prelude.{None}
-use Rattle.data_types.specs.Packed.{le_bytes, offset_width}
+use Rattle.data_types.specs.promise.Packed.{le_bytes, offset_width}
 use Rattle.col_build.proofs.OffsetBytes.{offsets-push}
 use Rattle.col_build.proofs.StoredFacts.{where-stored}
 use Rattle.col_build.proofs.store.end_item.Goals as goal

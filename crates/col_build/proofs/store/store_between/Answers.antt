@@ -1,7 +1,7 @@
 use Rattle.std.proofs.Common.{◌≡◌, ◌+◌, [], length, ap, sym, arith, append-nil}
 use Rattle.std.specs.Prelude.{map}
 use Rattle.std.specs.List.{concat}
-use Rattle.data_types.specs.Value.{bytes_of}
+use Rattle.data_types.specs.promise.Value.{bytes_of}
 use Rattle.col_build.specs.Items.{value_of}
 use Rattle.col_build.proofs.OffsetBytes.{between-push}
 use Rattle.col_build.proofs.StoredFacts.{where-both, where-ok}

@@ -1,6 +1,7 @@
 use Rattle.std.proofs.Common.{ap, arith}
-use Rattle.tree_model.specs.Tree.{maybe_tree}
-use Rattle.raw_array.specs.Members.{cost_of_maybe, holds_of}
+use Rattle.tree_model.specs.promise.TreeData.{maybe_tree}
+use Rattle.raw_array.specs.promise.Members.{holds_of}
+use Rattle.raw_array.specs.Members.{cost_of_maybe}
 use Rattle.raw_array.specs.View.{buffers_of}
 use Rattle.raw_array.proofs.Buffers.{holds_of-count}
 use Rattle.column_fill.proofs.ColumnCosts.{few-blocks, finished-holds}

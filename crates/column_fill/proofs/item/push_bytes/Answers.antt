@@ -3,9 +3,9 @@ use Rattle.std.proofs.lemmas.Int.{ints}
 use Rattle.arr_import.specs.Cols.{window_of}
 use Rattle.arr_import.specs.Window.{item_at}
 use Rattle.col_build.specs.Holding.{Adds}
-use Rattle.data_types.specs.Value.{Value, Bytes}
+use Rattle.data_types.specs.promise.Value.{Value, Bytes}
 use Rattle.data_types.specs.declared.storage.Storage.TheVariants.{Between}
-use Rattle.layout_rules.specs.Layout.{natural}
+use Rattle.layout_rules.specs.promise.Layout.{natural}
 use Rattle.column_fill.specs.Takes.{Takes}
 use Rattle.column_fill.proofs.ItemsMoved.{no-bytes, taken}
 use Rattle.column_fill.proofs.item.push_bytes.Goals as goal

@@ -4,8 +4,8 @@ use Rattle.std.proofs.lemmas.Int.{ints}
 use Rattle.arr_import.specs.Cols.{window_of}
 use Rattle.arr_import.specs.Window.{item_at}
 use Rattle.col_build.specs.Holding.{Adds}
-use Rattle.data_types.specs.Value.{Value, Whole}
-use Rattle.layout_rules.specs.Layout.{natural}
+use Rattle.data_types.specs.promise.Value.{Value, Whole}
+use Rattle.layout_rules.specs.promise.Layout.{natural}
 use Rattle.column_fill.proofs.ItemsMoved.{no-whole}
 use Rattle.column_fill.proofs.item.push_whole.Goals as goal
 

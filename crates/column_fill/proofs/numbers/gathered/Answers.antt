@@ -3,7 +3,7 @@ use Rattle.std.proofs.lemmas.Result.{IfOk-weaker}
 use Rattle.arr_import.specs.Cols.{window_of}
 use Rattle.arr_import.specs.Window.{whole}
 use Rattle.col_build.specs.Holding.{Holds}
-use Rattle.data_types.specs.KindTrees.{KindTree}
+use Rattle.data_types.specs.promise.KindTrees.{KindTree}
 use Rattle.column_fill.specs.Gathered.{shown_at}
 use Rattle.column_fill.proofs.Taken.{places-gather, shown-is}
 use Rattle.column_fill.proofs.numbers.gathered.Goals as goal

@@ -1,7 +1,7 @@
 use Rattle.std.proofs.Common.{take}
 use Rattle.col_build.specs.Holding.{Holds}
-use Rattle.data_types.specs.Table.{Flat}
-use Rattle.data_types.specs.ColumnKinds.{type_of_kind}
+use Rattle.data_types.specs.promise.Table.{Flat}
+use Rattle.data_types.specs.promise.ColumnKinds.{type_of_kind}
 use Rattle.column_fill.specs.Gathered.{values_at}
 use Rattle.column_fill.proofs.numbers.gathered_items.Given as goal
 

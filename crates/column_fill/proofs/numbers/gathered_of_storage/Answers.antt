@@ -3,7 +3,7 @@ use Rattle.std.specs.Prelude.{if◌then◌else◌}
 use Rattle.std.proofs.Math.Seq.{take-length}
 use Rattle.arr_import.specs.Plain.{IsItemThere, is_valid_in, valid_item}
 use Rattle.col_build.specs.Holding.{Holds}
-use Rattle.data_types.specs.Value.{Value, Null}
+use Rattle.data_types.specs.promise.Value.{Value, Null}
 use Rattle.data_types.specs.declared.kind.DataType.{DataType}
 use Rattle.column_fill.specs.Takes.{Takes}
 use Rattle.column_fill.proofs.ItemsMoved.{one-more}

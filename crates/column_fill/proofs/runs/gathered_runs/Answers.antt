@@ -7,12 +7,12 @@ use Rattle.arr_import.specs.Cols.{window_of}
 use Rattle.col_build.specs.Encoding.{Fits}
 use Rattle.col_build.specs.Holding.{Holds}
 use Rattle.col_build.specs.Times.{TakesTimes}
-use Rattle.data_types.specs.Table.{Flat}
-use Rattle.data_types.specs.Value.{Value}
+use Rattle.data_types.specs.promise.Table.{Flat}
+use Rattle.data_types.specs.promise.Value.{Value}
 use Rattle.data_types.specs.declared.kind.DataType.{DataType}
-use Rattle.data_types.specs.ColumnKinds.{type_of_kind}
-use Rattle.data_types.specs.TypedView.{typed_of}
-use Rattle.layout_rules.specs.Values.{value_at}
+use Rattle.data_types.specs.promise.ColumnKinds.{type_of_kind}
+use Rattle.data_types.specs.promise.TypedView.{typed_of}
+use Rattle.layout_rules.specs.promise.Values.{value_at}
 use Rattle.column_fill.specs.Takes.{IsStored}
 use Rattle.column_fill.proofs.ItemsMoved.{item-of}
 use Rattle.column_fill.specs.Gathered.{values_of_runs}

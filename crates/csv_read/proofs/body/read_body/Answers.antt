@@ -1,6 +1,6 @@
 use Rattle.std.proofs.Common.{rules, arith, List, ℕ, map, subst, take}
 use Rattle.data_types.specs.ColumnView.{column_of}
-use Rattle.csv_model.specs.Reading.{body_from}
+use Rattle.csv_model.specs.promise.Reading.{body_from}
 use Rattle.csv_read.specs.Body.{IsBodyFault}
 use Rattle.csv_read.specs.BodyRows.{HasBatch, IsRowsFault}
 use Rattle.csv_read.proofs.BodyRead.{body-refused, whole-body}

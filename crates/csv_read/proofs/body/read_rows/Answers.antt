@@ -1,7 +1,7 @@
 use Rattle.std.proofs.Common.{arith, ◌≡◌, ◌≢◌, ◌+◌, ◌∷◌, ◌∙◌, Bool, Result, Ok, true, false, ap, refl, subst, sym}
 use Rattle.std.proofs.lemmas.Result.{err_from_is_err_and}
 use Rattle.csv.specs.Records.{fields_of}
-use Rattle.csv_model.specs.Reading.{Record}
+use Rattle.csv_model.specs.promise.Reading.{Record}
 use Rattle.unit_pass.specs.declared.no_memory.NoMemory.{NoMemory}
 use Rattle.csv_read.specs.BodyRows.{RefusesBatch}
 use Rattle.csv_read.specs.RecordReader.{Takes}

@@ -1,5 +1,5 @@
 use Rattle.std.proofs.Common.{◌≡◌, ◌+◌, List, []}
-use Rattle.data_types.specs.Table.{Column}
+use Rattle.data_types.specs.promise.Table.{Column}
 use Rattle.csv_read.specs.BodyRows.{HasRows, RowsSoFar}
 use Rattle.csv_read.proofs.body.read_rows.Given as goal
 

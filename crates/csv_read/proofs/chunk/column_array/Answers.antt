@@ -1,7 +1,8 @@
 use Rattle.std.proofs.Common.{rules, ◌∙◌, ap, arith, inl, inr, sym}
-use Rattle.unit_pass.specs.Tally.{risen}
-use Rattle.tree_model.specs.Tree.{maybe_tree}
-use Rattle.raw_array.specs.Members.{Cost, cost_of_maybe, holds_of}
+use Rattle.unit_pass.specs.promise.Tally.{risen}
+use Rattle.tree_model.specs.promise.TreeData.{maybe_tree}
+use Rattle.raw_array.specs.promise.Members.{Cost, holds_of}
+use Rattle.raw_array.specs.Members.{cost_of_maybe}
 use Rattle.raw_array.specs.View.{buffers_of}
 use Rattle.raw_array.proofs.Buffers.{holds_of-count}
 use Rattle.csv_read.specs.Chunks.{own_blocks}

@@ -1,6 +1,6 @@
 use Rattle.std.proofs.Common.{rules, ◌≡◌, ◌<◌, ◌∙◌, ◌+◌, ◌++◌, List, ◌∷◌, [], ap, arith, length, subst, sym, take}
 use Rattle.std.proofs.lemmas.List.{take_all, take_more}
-use Rattle.tree_model.specs.Tree.{trees}
+use Rattle.tree_model.specs.promise.TreeData.{trees}
 use Rattle.raw_array.specs.Members.{cost_of_all}
 use Rattle.col_build.specs.Holding.{HoldsSome}
 use Rattle.col_build.specs.declared.builder.Builder.{Builder}

@@ -1,7 +1,7 @@
 use Rattle.std.proofs.Common.{◌≡◌, ◌+◌, ◌*◌, ◌≤◌, length, take, vec_len}
 use Rattle.std.specs.Vec.{vec_capacity}
-use Rattle.tree_model.specs.Tree.{trees}
-use Rattle.unit_pass.specs.Tally.{risen}
+use Rattle.tree_model.specs.promise.TreeData.{trees}
+use Rattle.unit_pass.specs.promise.Tally.{risen}
 use Rattle.raw_array.specs.Members.{cost_of_all}
 use Rattle.csv_read.specs.Chunks.{AreColumnsOf, all_blocks}
 use Rattle.csv_read.proofs.EmptiedBuilders.{EmptiedSoFar}

@@ -2,8 +2,8 @@ use Rattle.std.proofs.Common.{◌≡◌, ◌∙◌, ℤ, List, ◌<◌, ap, arit
 use Rattle.std.proofs.lemmas.Int.{ints}
 use Rattle.std.proofs.lemmas.List.{length-map}
 use Rattle.col_build.specs.Holding.{Holds, HoldsSome}
-use Rattle.data_types.specs.Table.{Column, Kind, Flat, Dict, Columns}
-use Rattle.data_types.specs.Value.{Value, Null}
+use Rattle.data_types.specs.promise.Table.{Column, Kind, Flat, Dict, Columns}
+use Rattle.data_types.specs.promise.Value.{Value, Null}
 use Rattle.data_types.specs.declared.kind.DataType.{DataType}
 use Rattle.col_build.specs.declared.builder.Builder.{Builder}
 use Rattle.data_types.specs.declared.kind.DataType.TheVariants as kinds

@@ -1,9 +1,10 @@
 use Rattle.std.proofs.Common.{◌∙◌, ap, arith, length, sym, subst, All, w64}
 use Rattle.std.proofs.lemmas.Int.{to_z-of_z}
 use Rattle.std.proofs.lemmas.Slice.Zip.{AllZip-long}
-use Rattle.unit_pass.specs.Tally.{risen}
-use Rattle.arr_export.specs.ArrayTrees.{IsColumn, table_tree}
-use Rattle.layout_rules.specs.Layout.{natural}
+use Rattle.unit_pass.specs.promise.Tally.{risen}
+use Rattle.arr_export.specs.promise.ArrayTrees.{table_tree}
+use Rattle.arr_export.specs.ArrayTrees.{IsColumn}
+use Rattle.layout_rules.specs.promise.Layout.{natural}
 use Rattle.csv_read.specs.Chunks.{IsColumnOf, all_blocks}
 use Rattle.csv_read.proofs.EmptiedBuilders.{emptied-spent}
 use Rattle.csv_read.proofs.RowsOfBuilders.{are-columns, blocks-are, columns-are, from-each, held-fit, held-some}

@@ -1,7 +1,7 @@
 use Rattle.std.proofs.Common.{◌∙◌, ap, sym}
 use Rattle.std.specs.Option.{option_map}
 use Rattle.csv.proofs.ReadFacts.{on-ok}
-use Rattle.data_types.specs.Value.{Bits}
+use Rattle.data_types.specs.promise.Value.{Bits}
 use Rattle.csv_read.proofs.field_push.push_bits.Goals as goal
 
 pub add_bits-requires-clause-takes : goal.add_bits-requires-clause-takes

@@ -4,7 +4,7 @@ use Rattle.std.specs.Option.{option_map}
 use Rattle.std.proofs.lemmas.Int.{ints}
 use Rattle.csv.proofs.ReadFacts.{on-ok}
 use Rattle.col_build.specs.Holding.{Adds}
-use Rattle.data_types.specs.Value.{Whole}
+use Rattle.data_types.specs.promise.Value.{Whole}
 use Rattle.csv_read.proofs.field_push.push_decimal.Goals as goal
 
 pub add_whole-requires-clause-takes : goal.add_whole-requires-clause-takes

@@ -2,7 +2,7 @@ use denote.Ref.{Bor}
 use Rattle.std.proofs.Common.{List, ℕ, Option, ap}
 use Rattle.std.specs.Option.{option_map}
 use Rattle.csv.proofs.ReadFacts.{on-ok}
-use Rattle.data_types.specs.Value.{Bytes}
+use Rattle.data_types.specs.promise.Value.{Bytes}
 use Rattle.csv_read.proofs.field_push.push_found.Goals as goal
 
 pub add_bytes-requires : goal.add_bytes-requires

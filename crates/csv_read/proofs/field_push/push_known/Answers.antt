@@ -1,6 +1,6 @@
 use Rattle.std.proofs.Common.{◌∙◌, sym}
 use Rattle.std.proofs.lemmas.Result.{on_ok_weaker}
-use Rattle.data_types.specs.Value.{Bytes}
+use Rattle.data_types.specs.promise.Value.{Bytes}
 use Rattle.field_codec.specs.declared.form.FieldForm.TheVariants as field_form
 use Rattle.csv_read.proofs.FieldPush.{mark-added, spelled-added, spelled-taken, text-reads}
 use Rattle.csv_read.proofs.field_push.push_known.Goals as goal

@@ -1,7 +1,7 @@
 use Rattle.std.proofs.Common.{◌∙◌, ap, sym}
 use Rattle.std.specs.Option.{option_map}
 use Rattle.csv.proofs.ReadFacts.{on-ok}
-use Rattle.data_types.specs.Value.{Bytes}
+use Rattle.data_types.specs.promise.Value.{Bytes}
 use Rattle.csv_read.proofs.field_push.push_sixteen.Goals as goal
 
 pub add_bytes-requires : goal.add_bytes-requires

@@ -1,6 +1,6 @@
 use Rattle.std.proofs.Common.{◌∙◌, sym}
 use Rattle.csv.proofs.ReadFacts.{on-ok}
-use Rattle.data_types.specs.Value.{Bytes}
+use Rattle.data_types.specs.promise.Value.{Bytes}
 use Rattle.csv_read.proofs.FieldPush.{text-reads}
 use Rattle.csv_read.proofs.field_push.push_text.Goals as goal
 

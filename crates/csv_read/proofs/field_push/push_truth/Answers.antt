@@ -1,7 +1,7 @@
 use Rattle.std.proofs.Common.{◌∙◌, ap, sym}
 use Rattle.std.specs.Option.{option_map}
 use Rattle.csv.proofs.ReadFacts.{on-ok}
-use Rattle.data_types.specs.Value.{Truth}
+use Rattle.data_types.specs.promise.Value.{Truth}
 use Rattle.csv_read.proofs.field_push.push_truth.Goals as goal
 
 pub add_truth-requires : goal.add_truth-requires

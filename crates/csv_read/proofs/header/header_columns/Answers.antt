@@ -1,12 +1,12 @@
 use Rattle.std.proofs.Common.{◌≡◌, ◌∙◌, List, length, ℕ, Bool, true, None, Result, Ok, Bor, ap, refl, subst, sym}
 use Rattle.std.specs.Prelude.{nat_le}
-use Rattle.data_types.specs.Table.{Column}
+use Rattle.data_types.specs.promise.Table.{Column}
 use Rattle.data_types.specs.Kinds.{KindOk}
-use Rattle.csv_model.specs.Header.{header_columns, most_columns, names_fault}
-use Rattle.csv_model.specs.Reading.{Record}
+use Rattle.csv_model.specs.promise.Header.{header_columns, most_columns, names_fault}
+use Rattle.csv_model.specs.promise.Reading.{Record}
 use Rattle.unit_pass.specs.declared.no_memory.NoMemory.{NoMemory}
 use Rattle.stage_plan.specs.PlanWords.{texts}
-use Rattle.stage_plan.specs.Entries.{entries_of}
+use Rattle.stage_plan.specs.promise.Entries.{entries_of}
 use Rattle.field_codec.specs.TextColumns.{AreAllowed, AreProper, IsAllowed, NamesDiffer}
 use Rattle.csv_read.proofs.HeaderColumns.{columns-differ, columns-have, header-found, no-twice}
 use Rattle.csv_read.proofs.header.header_columns.Goals as goal

@@ -1,16 +1,16 @@
 use Rattle.std.proofs.lemmas.Grind.{common_steps}
 use Rattle.std.proofs.Common.{Ok, ◌≡◌, ◌≤◌, ◌+◌, ◌*◌, ◌∙◌, List, length, map, ap, arith, refl, sym, subst}
 use Rattle.std.proofs.lemmas.Int.{ints}
-use Rattle.csv_model.specs.Batches.{Chunks}
+use Rattle.csv_model.specs.promise.Batches.{Chunks}
 use Rattle.col_build.specs.declared.builder.Builder.{Builder}
 use Rattle.csv_read.specs.BatchesLeft.{BatchesLeft, IsNextBatch, batches_left, columns_in}
 use Rattle.csv_read.specs.Body.{HoldRows}
 use Rattle.csv_read.specs.Chunks.{chunk_blocks, chunk_of}
 use Rattle.data_types.specs.ColumnView.{column_of}
-use Rattle.data_types.specs.Table.{Column}
+use Rattle.data_types.specs.promise.Table.{Column}
 use Rattle.data_types.specs.declared.kind.ColumnType.{ColumnType}
-use Rattle.raw_array.specs.Members.{ArrayTree, Cost}
-use Rattle.unit_pass.specs.Tally.{risen}
+use Rattle.raw_array.specs.promise.Members.{ArrayTree, Cost}
+use Rattle.unit_pass.specs.promise.Tally.{risen}
 use Rattle.csv_source.specs.NextChunks.{IsNextChunk}
 use Rattle.csv_source.proofs.Chunks.{chunk-same, next-chunk, next-short}
 use Rattle.csv_source.proofs.PlainKinds.{plain-columns}

@@ -1,4 +1,4 @@
-use Rattle.data_types.specs.TypedView.{typed_of}
+use Rattle.data_types.specs.promise.TypedView.{typed_of}
 use Rattle.arr_import.specs.Cols.{window_of}
 use Rattle.csv_write.proofs.RunLemmas.{add-text}
 use Rattle.csv_write.proofs.gather.add_chunk.Goals as goal

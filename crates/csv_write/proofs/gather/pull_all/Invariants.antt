@@ -1,5 +1,5 @@
 use Rattle.std.proofs.Common.{◌≡◌, ℕ, List, length}
-use Rattle.tree_model.specs.Tree.{Released}
+use Rattle.tree_model.specs.promise.TreeData.{Released}
 use Rattle.csv_write.specs.CsvTexts.{HasText}
 use Rattle.stream_face.specs.Meaning.{meaning}
 use Rattle.csv_write.specs.Runs.{Ran}

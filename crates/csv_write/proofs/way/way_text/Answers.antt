@@ -2,8 +2,8 @@ use Rattle.std.proofs.Common.{rules, ◌≡◌, ◌∙◌, ◌/◌, to_z, of_z, 
 use Rattle.std.specs.Fmt.{signed_decimal}
 use Rattle.std.specs.Int.{w128}
 use Rattle.std.proofs.lemmas.Result.{IfOk-weaker}
-use Rattle.data_types.specs.FieldText.{decimal_text, hex_text, last_digits}
-use Rattle.data_types.specs.Value.{Truth, Whole, Bits, Bytes}
+use Rattle.data_types.specs.promise.FieldText.{decimal_text, hex_text, last_digits}
+use Rattle.data_types.specs.promise.Value.{Truth, Whole, Bits, Bytes}
 use Rattle.arr_import.specs.Plain.{valid_item}
 use Rattle.csv_write.proofs.Readings.{by-way}
 use Rattle.csv_write.specs.declared.way.Way.TheVariants as ways

@@ -1,7 +1,8 @@
 use Rattle.std.proofs.Common.{◌≡◌, ◌∙◌, ◌<◌, ap, arith, sym, subst, rules, length, map, List}
 use Rattle.data_types.specs.ColumnForms.{KindsOk}
-use Rattle.data_types.specs.ColumnView.{column_of, kind_of, members}
-use Rattle.data_types.specs.Table.{Column, Columns}
+use Rattle.data_types.specs.promise.ColumnView.{members}
+use Rattle.data_types.specs.ColumnView.{column_of, kind_of}
+use Rattle.data_types.specs.promise.Table.{Column, Columns}
 use Rattle.data_types.specs.declared.kind.ColumnType.{ColumnType}
 use Rattle.data_types.proofs.ColumnCopies.{column-size, kind_size, members-ok, struct-view}
 use Rattle.data_types.proofs.copied.+copy.Goals as goal

@@ -1,5 +1,5 @@
 use Rattle.std.proofs.Common.{length, refl, Ok, Err}
-use Rattle.data_types.specs.FieldText.{hex_bytes}
+use Rattle.data_types.specs.promise.FieldText.{hex_bytes}
 use Rattle.hex.specs.Hex.{decode_sized}
 use Rattle.data_types.proofs.HexPairs.{decoded_err, decoded_ok, sized_is}
 use Rattle.data_types.proofs.hexadecimal.decode_hex.Goals as goal

@@ -1,4 +1,4 @@
-use Rattle.data_types.specs.TypedView.{typed_of}
+use Rattle.data_types.specs.promise.TypedView.{typed_of}
 use Rattle.dict_stage.proofs.Chunks.{column-fits}
 use Rattle.dict_stage.proofs.chunk.recoded_chunk.Goals as goal
 

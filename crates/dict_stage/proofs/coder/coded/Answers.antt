@@ -1,7 +1,7 @@
 use Rattle.std.proofs.Common.{◌∙◌, true, [], List, map, take, refl, sym, ap, subst, arith}
 use Rattle.col_build.specs.Holding.{Holds, Takes}
 use Rattle.col_build.specs.Items.{value_of}
-use Rattle.data_types.specs.Value.{Value, Bytes}
+use Rattle.data_types.specs.promise.Value.{Value, Bytes}
 use Rattle.arr_import.specs.Cols.{window_of}
 use Rattle.arr_import.specs.Window.{items_of}
 use Rattle.dict_stage.specs.Indices.{index_type}

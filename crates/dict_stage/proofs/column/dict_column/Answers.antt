@@ -2,7 +2,7 @@ use Rattle.std.proofs.Common.{◌≤◌, ◌^◌, length, sym, subst, arith}
 use Rattle.arr_export.specs.ArrayTrees.{AreIndices}
 use Rattle.arr_import.specs.Cols.{window_of}
 use Rattle.arr_import.specs.Window.{items_of}
-use Rattle.stage_model.specs.Dictionary.{Dictionary}
+use Rattle.stage_model.specs.promise.Dictionary.{Dictionary}
 use Rattle.dict_stage.specs.Indices.{Indices, index_type}
 use Rattle.dict_stage.proofs.Codes.{count-of}
 use Rattle.dict_stage.proofs.Recoded.{dict-made, indices-of}

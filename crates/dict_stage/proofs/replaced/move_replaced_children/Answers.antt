@@ -1,7 +1,9 @@
 use Rattle.std.proofs.Common.{arith, ◌≡◌, ◌+◌, ◌-◌, ◌∙◌, ◌++◌, map, take, drop, ap, w64, to_z, of_z}
 use Rattle.std.proofs.lemmas.Int.{ints}
-use Rattle.tree_model.specs.Tree.{children_of, child_at, trees}
-use Rattle.raw_array.specs.Members.{Cost, cost_of_all, members_of}
+use Rattle.tree_model.specs.promise.TreeParts.{children_of, child_at}
+use Rattle.tree_model.specs.promise.TreeData.{trees}
+use Rattle.raw_array.specs.promise.Members.{Cost, members_of}
+use Rattle.raw_array.specs.Members.{cost_of_all}
 use Rattle.arr_move.proofs.MovedChildren.{at-later, cost-push, cut_to, fits-same}
 use Rattle.dict_stage.proofs.ReplacedChildren.{parts-are, rest-later}
 use Rattle.dict_stage.proofs.replaced.move_replaced_children.Goals as goal

@@ -1,7 +1,7 @@
 use Rattle.std.proofs.Common.{arith, ap, ◌≡◌, ◌∙◌, w64, to_z, of_z}
 use Rattle.std.proofs.lemmas.Int.{ints}
-use Rattle.tree_model.specs.Tree.{child_at}
-use Rattle.raw_array.specs.Members.{ArrayTree, members_of}
+use Rattle.tree_model.specs.promise.TreeParts.{child_at}
+use Rattle.raw_array.specs.promise.Members.{ArrayTree, members_of}
 use Rattle.dict_stage.proofs.ReplacedChildren.{table-is}
 use Rattle.dict_stage.proofs.replaced.replaced.Goals as goal
 

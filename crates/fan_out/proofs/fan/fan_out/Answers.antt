@@ -2,10 +2,11 @@ use Rattle.std.proofs.lemmas.Grind.{common_steps}
 use Rattle.std.proofs.Common.{rules, arith, ◌≡◌, ℕ, ◌+◌, ◌-◌, ◌<◌, ◌≤◌, ◌*◌, ap, get_or, length, subst, sym, ◌∙◌}
 use Rattle.std.proofs.lemmas.Result.{IfOk-weaker}
 use Rattle.fan_out.specs.Pieces.{GivesPiece, lent}
-use Rattle.data_types.specs.TypedView.{typed_of}
-use Rattle.layout_rules.specs.Values.{rows_of}
+use Rattle.data_types.specs.promise.TypedView.{typed_of}
+use Rattle.layout_rules.specs.promise.Values.{rows_of}
 use Rattle.std.proofs.Math.Nat.{mul-le-mul_right}
-use Rattle.raw_array.specs.Members.{ArrayTree, Cost, LeastAmount, LoweredBy}
+use Rattle.raw_array.specs.promise.Members.{ArrayTree, Cost}
+use Rattle.raw_array.specs.Members.{LeastAmount, LoweredBy}
 use Rattle.fan_out.proofs.Lists.{always_on_ok}
 use Rattle.fan_out.proofs.fan.fan_out.Goals as goal
 use Rattle.fan_out.proofs.fan.fan_out.Goals.{then-workers-eq1-via-then-workers-eq1, then-workers-eq1-via-else-workers-eq1+then-least_amount-from}

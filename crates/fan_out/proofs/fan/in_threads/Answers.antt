@@ -4,10 +4,10 @@ use Rattle.std.proofs.lemmas.Result.{IfOk-weaker}
 use Rattle.std.proofs.Math.Nat.{mul-le-mul_right}
 use Rattle.std.specs.Prelude.{IfOk}
 use Rattle.unit_pass.specs.declared.pass.TheConstants.{SUPPLY}
-use Rattle.data_types.specs.TypedView.{typed_of}
-use Rattle.layout_rules.specs.Values.{rows_of}
+use Rattle.data_types.specs.promise.TypedView.{typed_of}
+use Rattle.layout_rules.specs.promise.Values.{rows_of}
 use Rattle.raw_array.specs.Members.{Like, LoweredBy}
-use Rattle.fan_out.specs.Counts.{most_workers}
+use Rattle.fan_out.specs.promise.Counts.{most_workers}
 use Rattle.fan_out.specs.Pieces.{GivesPiece, GivesPieces, ReadsPieces, lent}
 use Rattle.fan_out.specs.declared.piece.Piece.{Piece}
 use Rattle.fan_out.proofs.Lists.{always_on_ok}

@@ -1,6 +1,6 @@
 use Rattle.std.proofs.Common.{ℤ, length}
-use Rattle.data_types.specs.TypedView.{typed_of}
-use Rattle.layout_rules.specs.Values.{rows_of}
+use Rattle.data_types.specs.promise.TypedView.{typed_of}
+use Rattle.layout_rules.specs.promise.Values.{rows_of}
 use Rattle.fan_out.specs.Pieces.{GivesPiece}
 use Rattle.fan_out.proofs.Lists.{pushed}
 use Rattle.fan_out.proofs.Collecting.{given_more}

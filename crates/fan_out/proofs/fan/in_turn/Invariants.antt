@@ -1,6 +1,6 @@
 use Rattle.std.proofs.Common.{length}
-use Rattle.data_types.specs.TypedView.{typed_of}
-use Rattle.layout_rules.specs.Values.{rows_of}
+use Rattle.data_types.specs.promise.TypedView.{typed_of}
+use Rattle.layout_rules.specs.promise.Values.{rows_of}
 use Rattle.fan_out.specs.Pieces.{GivesFirst}
 use Rattle.fan_out.proofs.fan.in_turn.Given as goal
 

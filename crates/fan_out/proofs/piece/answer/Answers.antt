@@ -2,7 +2,7 @@ use Rattle.std.proofs.Common.{◌≡◌, ◌∙◌, ℕ, ℤ, pos, ◌+◌, ◌*
 use Rattle.std.proofs.Math.Nat.{div-mul-le_self}
 use Rattle.std.proofs.lemmas.Int.{ints}
 use Rattle.std.proofs.lemmas.Nat.{le-div}
-use Rattle.layout_rules.specs.Layout.{natural}
+use Rattle.layout_rules.specs.promise.Layout.{natural}
 use Rattle.array_laws.specs.Pieces.{border}
 use Rattle.fan_out.proofs.piece.answer.Goals as goal
 

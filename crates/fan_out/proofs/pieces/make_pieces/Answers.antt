@@ -3,8 +3,8 @@ use Rattle.std.proofs.lemmas.Bool.{eq-eqb}
 use Rattle.std.specs.Prelude.{if◌then◌else◌}
 use Rattle.std.proofs.Math.Nat.{mul-le-mul_right}
 use Rattle.raw_array.specs.Members.{LeastAmount, Lowered, LoweredBy, ShareOf}
-use Rattle.data_types.specs.TypedView.{typed_of}
-use Rattle.layout_rules.specs.Values.{rows_of}
+use Rattle.data_types.specs.promise.TypedView.{typed_of}
+use Rattle.layout_rules.specs.promise.Values.{rows_of}
 use Rattle.fan_out.proofs.Collecting.{not_last}
 use Rattle.fan_out.proofs.Lists.{last_is, one_more}
 use Rattle.fan_out.proofs.Ready.{chunk_again, none_ready, ready_push, tree_push, unspent}

@@ -1,7 +1,7 @@
 use Rattle.std.proofs.Common.{◌≡◌, ℕ, ◌+◌, ◌*◌, ◌<◌, ◌≤◌, All, get_or, vec_len, vec_capacity}
 use Rattle.raw_array.specs.Members.{Like, LoweredBy, ShareOf}
-use Rattle.data_types.specs.TypedView.{typed_of}
-use Rattle.layout_rules.specs.Values.{rows_of}
+use Rattle.data_types.specs.promise.TypedView.{typed_of}
+use Rattle.layout_rules.specs.promise.Values.{rows_of}
 use Rattle.fan_out.specs.Pieces.{IsChunk}
 use Rattle.fan_out.specs.Workers.{IsReady}
 use Rattle.fan_out.specs.declared.piece.Piece.{Piece}

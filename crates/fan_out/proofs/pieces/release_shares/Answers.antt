@@ -1,6 +1,6 @@
 use Rattle.std.proofs.Common.{ℕ, ◌+◌, ◌≤◌, ◌∙◌, ap, refl, subst, sym}
 use Rattle.unit_pass.specs.declared.pass.TheConstants.{SUPPLY}
-use Rattle.raw_array.specs.Members.{Cost}
+use Rattle.raw_array.specs.promise.Members.{Cost}
 use Rattle.fan_out.specs.Workers.{IsUnspent}
 use Rattle.fan_out.proofs.Lists.{none_fits, none_left, one_back, one_fits, popped, same_units}
 use Rattle.fan_out.proofs.pieces.release_shares.Goals as goal

@@ -1,6 +1,6 @@
 use Rattle.std.proofs.Common.{◌∙◌, length}
 use Rattle.std.proofs.lemmas.Result.{IfOk-weaker}
-use Rattle.data_types.specs.TypedView.{typed_of}
+use Rattle.data_types.specs.promise.TypedView.{typed_of}
 use Rattle.fan_out.proofs.Collecting.{gathered, last_done, others_done, read_all}
 use Rattle.fan_out.proofs.run.run_and_collect.Goals as goal
 

@@ -1,8 +1,8 @@
 use Rattle.std.proofs.Common.{◌≡◌, List, ◌-◌, ◌≤◌, ℕ, length, get_or, ap, ◌∙◌, subst, sym, All}
 use Rattle.std.specs.List.{AllWithin}
 use Rattle.std.specs.Prelude.{IfOk}
-use Rattle.data_types.specs.TypedView.{typed_of}
-use Rattle.fan_out.specs.Counts.{most_workers}
+use Rattle.data_types.specs.promise.TypedView.{typed_of}
+use Rattle.fan_out.specs.promise.Counts.{most_workers}
 use Rattle.fan_out.specs.Pieces.{GivesPieces, ReadsPieces}
 use Rattle.fan_out.specs.Workers.{CanRun, IsReady, IsReleased, IsUnspent}
 use Rattle.fan_out.specs.declared.piece.Piece.{Piece}

@@ -1,6 +1,6 @@
 use Rattle.std.proofs.Common.{◌≡◌, ℕ, ◌/◌, sym, ap, ◌∙◌, arith}
 use Rattle.std.proofs.lemmas.Grind.{common_steps}
-use Rattle.data_types.specs.FieldText.{hex_text, last_digits}
+use Rattle.data_types.specs.promise.FieldText.{hex_text, last_digits}
 use Rattle.field_codec.proofs.Hexadecimals.{bytes_written}
 use Rattle.field_codec.proofs.hexadecimal.bits_text.Goals as goal
 use Rattle.field_codec.proofs.hexadecimal.bits_text.Goals.{in-64, in_default}

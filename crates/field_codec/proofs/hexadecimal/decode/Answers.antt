@@ -1,7 +1,7 @@
 use Rattle.std.proofs.Common.{◌≡◌, ℕ, ◌+◌, ◌-◌, ◌*◌, ◌/◌, List, length, take, drop, Some, ap, sym, ◌∙◌, subst, arith, length-drop}
 use Rattle.std.proofs.lemmas.Bool.{OnFalse_at, OnFalse_from, OnTrue_at, OnTrue_from}
 use Rattle.std.proofs.lemmas.List.{take_all}
-use Rattle.data_types.specs.FieldText.{hex_bytes}
+use Rattle.data_types.specs.promise.FieldText.{hex_bytes}
 use Rattle.field_codec.proofs.Hexadecimals.{Eights, eights_end, eights_end_other, eights_more, eights_other, put_behind}
 use Rattle.field_codec.proofs.hexadecimal.decode.Goals as goal
 

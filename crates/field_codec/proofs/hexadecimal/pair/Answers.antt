@@ -1,6 +1,6 @@
 use Rattle.std.proofs.Common.{◌≡◌, ℕ, ◌+◌, ◌*◌, ◌/◌, ◌%◌, ◌<◌, false, get_or, refl, arith}
 use Rattle.std.specs.Fmt.{digit_glyph}
-use Rattle.data_types.specs.FieldText.{last_digits}
+use Rattle.data_types.specs.promise.FieldText.{last_digits}
 use Rattle.field_codec.specs.declared.hexadecimal.TheConstants.{PAIRS}
 use Rattle.field_codec.proofs.Tables.{entry_at, is_table}
 use Rattle.field_codec.proofs.hexadecimal.pair.Goals as goal

@@ -1,6 +1,6 @@
 use Rattle.std.proofs.Common.{◌≡◌, ◌++◌, ◌-◌, ◌*◌, ◌∙◌, ℕ, List, Some, ap, sym, arith, drop, length, take, length-drop}
 use Rattle.std.proofs.lemmas.List.{length-take-le, take-append-drop, take_all}
-use Rattle.data_types.specs.FieldText.{hex_bytes}
+use Rattle.data_types.specs.promise.FieldText.{hex_bytes}
 use Rattle.field_codec.proofs.Hexadecimals.{none_before, none_behind, pairs_behind}
 use Rattle.field_codec.proofs.hexadecimal.read_sixteen.Goals as goal
 

@@ -2,7 +2,7 @@ use Rattle.std.proofs.Common.{◌≡◌, ℕ, suc, ◌+◌, ◌-◌, ◌*◌, �
 use Rattle.std.specs.Fmt.{digit_glyph}
 use Rattle.std.proofs.lemmas.List.{take_more_set}
 use Rattle.std.proofs.lemmas.Nat.{and_mask}
-use Rattle.data_types.specs.FieldText.{last_digits}
+use Rattle.data_types.specs.promise.FieldText.{last_digits}
 use Rattle.field_codec.proofs.Hexadecimals.{next_digit, power_of_2}
 use Rattle.field_codec.proofs.hexadecimal.write_bits.Goals as goal
 

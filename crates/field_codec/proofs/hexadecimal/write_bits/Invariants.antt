@@ -1,5 +1,5 @@
 use Rattle.std.proofs.Common.{◌≡◌, ◌-◌, ◌/◌, ◌^◌, take}
-use Rattle.data_types.specs.FieldText.{last_digits}
+use Rattle.data_types.specs.promise.FieldText.{last_digits}
 use Rattle.field_codec.proofs.hexadecimal.write_bits.Given as goal
 
 abbrev pub invariant-loop-place : goal.invariant-loop-place

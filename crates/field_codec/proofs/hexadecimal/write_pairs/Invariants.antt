@@ -1,5 +1,5 @@
 use Rattle.std.proofs.Common.{◌≡◌, ◌*◌, take}
-use Rattle.data_types.specs.FieldText.{hex_text}
+use Rattle.data_types.specs.promise.FieldText.{hex_text}
 use Rattle.field_codec.proofs.hexadecimal.write_pairs.Given as goal
 
 abbrev pub invariant-loop-place : goal.invariant-loop-place

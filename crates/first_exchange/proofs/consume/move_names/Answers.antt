@@ -1,6 +1,7 @@
 use Rattle.std.proofs.Common.{◌≡◌, ◌<◌, length, subst, arith}
-use Rattle.tree_model.specs.Tree.{Released, IsLive, child_at, children_of}
-use Rattle.data_types.specs.TypedView.{typed_of}
+use Rattle.tree_model.specs.promise.TreeData.{Released}
+use Rattle.tree_model.specs.promise.TreeParts.{IsLive, child_at, children_of}
+use Rattle.data_types.specs.promise.TypedView.{typed_of}
 use Rattle.first_exchange.proofs.Tables.{child-live, live}
 use Rattle.first_exchange.proofs.consume.move_names.Goals as goal
 

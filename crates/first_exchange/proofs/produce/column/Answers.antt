@@ -1,8 +1,9 @@
 use Rattle.std.proofs.Common.{List, Option, ap, map, arith}
 use Rattle.std.specs.Prelude.{count_by, is_some}
 use Rattle.buf_block.specs.declared.hold.BufView.{BufView}
-use Rattle.tree_model.specs.Tree.{maybe_tree}
-use Rattle.raw_array.specs.Members.{Cost, cost_of_maybe}
+use Rattle.tree_model.specs.promise.TreeData.{maybe_tree}
+use Rattle.raw_array.specs.promise.Members.{Cost}
+use Rattle.raw_array.specs.Members.{cost_of_maybe}
 use Rattle.col_build.specs.Items.{value_of}
 use Rattle.first_exchange.proofs.Columns.{column-cost, finished-holds}
 use Rattle.first_exchange.proofs.produce.column.Goals as goal

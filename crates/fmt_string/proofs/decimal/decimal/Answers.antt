@@ -1,5 +1,5 @@
 use Rattle.std.proofs.Common.{List, ℕ, subst, IfErr}
-use Rattle.fmt_string.specs.FormatString.{NumbersFail}
+use Rattle.fmt_string.specs.promise.FormatString.{NumbersFail}
 use Rattle.fmt_string.proofs.Decimals.{precision_and_more}
 use Rattle.fmt_string.proofs.decimal.decimal.Goals as goal
 

@@ -1,5 +1,5 @@
 use Rattle.std.proofs.Common.{List, ℕ, ◌++◌, subst, IfErr}
-use Rattle.fmt_string.specs.FormatString.{comma, NumbersFail}
+use Rattle.fmt_string.specs.promise.FormatString.{comma, NumbersFail}
 use Rattle.fmt_string.proofs.Decimals.{no_scale, scale_and_more}
 use Rattle.fmt_string.proofs.decimal.with_precision.Goals as goal
 

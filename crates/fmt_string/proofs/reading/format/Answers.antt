@@ -4,7 +4,7 @@ use Rattle.fmt_string.specs.declared.keyword.Keyword.{Keyword as CodeKeyword}
 use Rattle.fmt_string.specs.declared.keyword.Behind.TheVariants as code
 use Rattle.fmt_string.specs.Meaning.{keyword_of}
 use Rattle.std.proofs.lemmas.Result.{IfOk-weaker, MatchResult-weaker}
-use Rattle.fmt_string.specs.FormatString.{FormatIs}
+use Rattle.fmt_string.specs.promise.FormatString.{FormatIs}
 use Rattle.fmt_string.proofs.Compose.{found_is, word_within, format_is, fault_is, unknown_is}
 use Rattle.fmt_string.proofs.reading.format.Goals as goal
 

@@ -1,6 +1,6 @@
 use Rattle.std.proofs.Common.{List, ℕ, sym, subst}
 use Rattle.std.proofs.lemmas.Result.{IfOk-weaker}
-use Rattle.fmt_string.specs.FormatString.{FormatIs}
+use Rattle.fmt_string.specs.promise.FormatString.{FormatIs}
 use Rattle.fmt_string.proofs.Spelled.{spelled}
 use Rattle.fmt_string.proofs.writing.write_format.Goals as goal
 

@@ -1,7 +1,7 @@
 use Rattle.std.proofs.Common.{arith, ◌≡◌, ◌+◌, ◌-◌, take, ◌++◌, ◌∙◌, map, length, Ok, refl, ap, sym, subst, reverse, List, [], ◌∷◌}
 use Rattle.std.proofs.Common.{length-append}
 use Rattle.std.proofs.lemmas.List.{append-nil, reverse-append, reverse-reverse, length-reverse}
-use Rattle.data_types.specs.TypedView.{typed_of}
+use Rattle.data_types.specs.promise.TypedView.{typed_of}
 use Rattle.foreign_array.specs.Kept.{AreKept, tree_in, units_of_all}
 use Rattle.foreign_array.specs.Drained.{ShownAfter}
 use Rattle.foreign_array.proofs.Coming.{Coming, coming-done, coming-first, coming-next}

@@ -1,5 +1,5 @@
 use Rattle.std.proofs.Common.{◌≡◌, ◌+◌, ◌≤◌, map, length, reverse}
-use Rattle.data_types.specs.TypedView.{typed_of}
+use Rattle.data_types.specs.promise.TypedView.{typed_of}
 use Rattle.foreign_array.specs.Kept.{AreKept, tree_in, units_of_all}
 use Rattle.foreign_array.proofs.Coming.{Coming}
 use Rattle.foreign_array.proofs.draining.drain.Given as goal

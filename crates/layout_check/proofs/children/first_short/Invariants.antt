@@ -1,6 +1,6 @@
 use Rattle.std.proofs.Common.{◌≡◌, drop}
-use Rattle.tree_model.specs.Tree.{children_of}
-use Rattle.layout_rules.specs.Rules.{child_short}
+use Rattle.tree_model.specs.promise.TreeParts.{children_of}
+use Rattle.layout_rules.specs.promise.Rules.{child_short}
 use Rattle.layout_check.proofs.children.first_short.Given as goal
 
 -- what is left has the same first fault

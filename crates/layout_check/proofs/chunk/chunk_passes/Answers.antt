@@ -1,8 +1,8 @@
 use Rattle.std.proofs.Common.{rules, [], sym, ap, ◌∙◌}
 use Rattle.std.proofs.lemmas.Bool.{both_ways}
 use Rattle.std.specs.Prelude.{is_none}
-use Rattle.data_types.specs.TypedView.{typed_of}
-use Rattle.layout_rules.specs.Walk.{top_fault}
+use Rattle.data_types.specs.promise.TypedView.{typed_of}
+use Rattle.layout_rules.specs.promise.Walk.{top_fault}
 use Rattle.layout_rules.proofs.ReadWithin.{lawful-no_fault, no_fault-lawful, is_none-none}
 use Rattle.layout_check.proofs.chunk.chunk_passes.Goals as goal
 

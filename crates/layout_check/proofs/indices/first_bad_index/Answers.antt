@@ -1,7 +1,7 @@
 use Rattle.std.proofs.Common.{rules, ◌≡◌, ◌<◌, Some, None, sym}
-use Rattle.raw_array.specs.Members.{members_of}
-use Rattle.layout_rules.specs.Layout.{items}
-use Rattle.layout_rules.specs.Rules.{index_wrong, first_below}
+use Rattle.raw_array.specs.promise.Members.{members_of}
+use Rattle.layout_rules.specs.promise.Layout.{items}
+use Rattle.layout_rules.specs.promise.Rules.{index_wrong, first_below}
 use Rattle.layout_rules.proofs.Firsts.{first_below-some}
 use Rattle.layout_check.proofs.indices.first_bad_index.Goals as goal
 

@@ -1,6 +1,6 @@
 use Rattle.std.proofs.Common.{◌≡◌, None}
-use Rattle.raw_array.specs.Members.{members_of}
-use Rattle.layout_rules.specs.Rules.{index_wrong, first_below}
+use Rattle.raw_array.specs.promise.Members.{members_of}
+use Rattle.layout_rules.specs.promise.Rules.{index_wrong, first_below}
 use Rattle.layout_check.proofs.indices.first_bad_index.Given as goal
 
 abbrev pub invariant-loop-i : goal.invariant-loop-i

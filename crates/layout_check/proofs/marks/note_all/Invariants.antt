@@ -1,4 +1,4 @@
-use Rattle.raw_array.specs.Members.{members_of}
+use Rattle.raw_array.specs.promise.Members.{members_of}
 use Rattle.layout_check.specs.Scans.{AreMarks}
 use Rattle.layout_check.proofs.marks.note_all.Given as goal
 

@@ -1,5 +1,5 @@
 use Rattle.std.proofs.Common.{◌≡◌, length, ◌-◌}
-use Rattle.raw_array.specs.Members.{ArrayMembers}
+use Rattle.raw_array.specs.promise.Members.{ArrayMembers}
 use Rattle.layout_check.specs.Scans.{sized_data, AreMarks}
 use Rattle.layout_check.proofs.marks.note_buffer.Given as goal
 

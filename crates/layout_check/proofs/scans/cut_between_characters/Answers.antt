@@ -1,8 +1,8 @@
 use Rattle.std.proofs.Common.{◌≤◌, ◌+◌, ◌*◌, ◌-◌, ◌<◌, ◌^◌, ◌∙◌, ℕ, Fits, w64, subst, sym, true≢false, arith}
 use Rattle.std.specs.Str.{IsCharBoundary}
 use Rattle.std.proofs.Math.Nat.{mul-le-mul_right}
-use Rattle.data_types.specs.Packed.{offset_width}
-use Rattle.layout_rules.specs.Layout.{natural}
+use Rattle.data_types.specs.promise.Packed.{offset_width}
+use Rattle.layout_rules.specs.promise.Layout.{natural}
 use Rattle.layout_check.specs.Scans.{AreBorders}
 use Rattle.layout_check.proofs.Casts.{same}
 use Rattle.layout_check.proofs.Loops.{at_last}

@@ -1,5 +1,5 @@
 use Rattle.std.proofs.Common.{◌≡◌, None, true}
-use Rattle.layout_rules.specs.Rules.{first_below}
+use Rattle.layout_rules.specs.promise.Rules.{first_below}
 use Rattle.layout_check.specs.Scans.{outside_in}
 use Rattle.layout_check.proofs.scans.inside.Given as goal
 

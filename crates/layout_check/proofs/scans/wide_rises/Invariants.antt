@@ -1,6 +1,6 @@
 use Rattle.std.proofs.Common.{◌≡◌, true}
 use Rattle.std.specs.Prelude.{is_none}
-use Rattle.layout_rules.specs.Rules.{falls_in, first_below}
+use Rattle.layout_rules.specs.promise.Rules.{falls_in, first_below}
 use Rattle.layout_check.proofs.scans.wide_rises.Given as goal
 
 abbrev pub invariant-loop-i : goal.invariant-loop-i

@@ -1,8 +1,8 @@
 use Rattle.std.proofs.Common.{◌≤◌, ◌<◌, ◌+◌, ◌*◌, ◌^◌, pos, length, subst, sym, ◌∙◌, true≢false, ap}
 use Rattle.std.specs.Prelude.{IsUtf8, ◌≤ℤ◌}
-use Rattle.data_types.specs.Packed.{offset_width}
-use Rattle.raw_array.specs.Members.{members_of}
-use Rattle.layout_rules.specs.Layout.{bytes, first, end, items, natural, offset}
+use Rattle.data_types.specs.promise.Packed.{offset_width}
+use Rattle.raw_array.specs.promise.Members.{members_of}
+use Rattle.layout_rules.specs.promise.Layout.{bytes, first, end, items, natural, offset}
 use Rattle.layout_check.specs.Scans.{AreBorders}
 use Rattle.layout_check.proofs.Readable.{need_some, end_some, window, offsets_before, window_end, few_offsets}
 use Rattle.layout_check.proofs.Scanned.{borders-pass}

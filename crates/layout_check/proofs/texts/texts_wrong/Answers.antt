@@ -1,7 +1,7 @@
 use Rattle.std.proofs.Common.{◌≡◌, None, ap, subst, sym, ◌∙◌}
-use Rattle.raw_array.specs.Members.{members_of}
-use Rattle.layout_rules.specs.Layout.{layout_of}
-use Rattle.layout_rules.specs.Rules.{is_behind_offsets, offsets_fall_if, views_misplaced, texts_wrong}
+use Rattle.raw_array.specs.promise.Members.{members_of}
+use Rattle.layout_rules.specs.promise.Layout.{layout_of}
+use Rattle.layout_rules.specs.promise.Rules.{is_behind_offsets, offsets_fall_if, views_misplaced, texts_wrong}
 use Rattle.layout_check.proofs.Readable.{text-some, text-validity, text-long, text-data, views-some, views-validity, views-long, views-lengths, views-named}
 use Rattle.layout_check.proofs.Readable.{texts_other}
 use Rattle.layout_check.proofs.texts.texts_wrong.Goals as goal

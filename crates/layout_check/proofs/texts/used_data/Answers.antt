@@ -1,8 +1,8 @@
 use Rattle.std.proofs.Common.{◌≤◌, ◌+◌, ◌*◌, pos, length, ap, subst, sym, ◌∙◌}
 use Rattle.std.specs.Prelude.{◌≤ℤ◌}
-use Rattle.data_types.specs.Packed.{offset_width}
-use Rattle.raw_array.specs.Members.{members_of}
-use Rattle.layout_rules.specs.Layout.{first, end, bytes, offset, data_between}
+use Rattle.data_types.specs.promise.Packed.{offset_width}
+use Rattle.raw_array.specs.promise.Members.{members_of}
+use Rattle.layout_rules.specs.promise.Layout.{first, end, bytes, offset, data_between}
 use Rattle.layout_check.proofs.Readable.{need_some, end_some, window}
 use Rattle.layout_rules.proofs.TextData.{border-from, border-rise, border-within}
 use Rattle.layout_check.proofs.texts.used_data.Goals as goal

@@ -1,9 +1,9 @@
 use Rattle.std.proofs.Common.{◌≤◌, ◌+◌, ◌*◌, pos, length, subst, sym, true≢false, ap, ◌∙◌}
 use Rattle.std.specs.Prelude.{IsUtf8, ◌≤ℤ◌}
 use Rattle.std.specs.Str.{IsCharBoundary}
-use Rattle.data_types.specs.Packed.{offset_width}
-use Rattle.raw_array.specs.Members.{members_of}
-use Rattle.layout_rules.specs.Layout.{bytes, end, natural, offset}
+use Rattle.data_types.specs.promise.Packed.{offset_width}
+use Rattle.raw_array.specs.promise.Members.{members_of}
+use Rattle.layout_rules.specs.promise.Layout.{bytes, end, natural, offset}
 use Rattle.layout_check.proofs.MarkedText.{border-to, buffer-text, used-text}
 use Rattle.layout_check.proofs.Readable.{need_some, end_some, window, offsets_before}
 use Rattle.layout_rules.proofs.TextData.{border-from}

@@ -1,6 +1,6 @@
 use Rattle.std.proofs.Common.{◌<◌, ◌∙◌, ℕ, subst, sym, true≢false, arith}
 use Rattle.std.specs.Prelude.{IsUtf8}
-use Rattle.raw_array.specs.Members.{members_of}
+use Rattle.raw_array.specs.promise.Members.{members_of}
 use Rattle.layout_check.specs.Scans.{AreTexts}
 use Rattle.layout_check.proofs.Loops.{at_last}
 use Rattle.layout_check.proofs.ViewsScanned.{AreTexts-none, AreTexts-more}

@@ -1,4 +1,4 @@
-use Rattle.raw_array.specs.Members.{members_of}
+use Rattle.raw_array.specs.promise.Members.{members_of}
 use Rattle.layout_check.specs.Scans.{AreTexts}
 use Rattle.layout_check.proofs.view_texts.are_texts.Given as goal
 

@@ -1,9 +1,9 @@
 use Rattle.std.proofs.Common.{ap, subst, sym, ◌∙◌, ◌+◌, ◌<◌, nat_abs, of_z, to_z, true≢false, w64}
 use Rattle.std.specs.Prelude.{IsUtf8}
 use Rattle.std.specs.Str.{IsCharBoundary}
-use Rattle.raw_array.specs.Members.{members_of}
-use Rattle.layout_rules.specs.Layout.{natural, data_buffers}
-use Rattle.layout_rules.specs.Views.{view_length, view_buffer, view_offset}
+use Rattle.raw_array.specs.promise.Members.{members_of}
+use Rattle.layout_rules.specs.promise.Layout.{natural, data_buffers}
+use Rattle.layout_rules.specs.promise.Views.{view_length, view_buffer, view_offset}
 use Rattle.layout_check.specs.Scans.{sized_data}
 use Rattle.layout_check.proofs.Casts.{cast_is, cast_below, cast_fits, sum_fits}
 use Rattle.layout_check.proofs.LongViews.{view-long, view-named}

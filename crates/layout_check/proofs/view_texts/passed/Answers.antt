@@ -1,4 +1,4 @@
-use Rattle.raw_array.specs.Members.{members_of}
+use Rattle.raw_array.specs.promise.Members.{members_of}
 use Rattle.layout_check.proofs.TextRuns.{no-marks}
 use Rattle.layout_check.proofs.view_texts.passed.Goals as goal
 

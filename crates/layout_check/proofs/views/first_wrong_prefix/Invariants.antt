@@ -1,6 +1,6 @@
 use Rattle.std.proofs.Common.{◌≡◌, None}
-use Rattle.raw_array.specs.Members.{members_of}
-use Rattle.layout_rules.specs.Rules.{prefix_wrong, first_below}
+use Rattle.raw_array.specs.promise.Members.{members_of}
+use Rattle.layout_rules.specs.promise.Rules.{prefix_wrong, first_below}
 use Rattle.layout_check.proofs.views.first_wrong_prefix.Given as goal
 
 abbrev pub invariant-loop-i : goal.invariant-loop-i

@@ -1,10 +1,10 @@
 use Rattle.std.proofs.Common.{◌+◌, ◌<◌, pos, false, true, ap, sym, subst, ◌∙◌, nat_abs, of_z, to_z, w64}
 use mir.Syntax.{w128}
 use Rattle.std.specs.Prelude.{nat_lt}
-use Rattle.raw_array.specs.Members.{members_of}
-use Rattle.layout_rules.specs.Layout.{natural, data_buffers, data_length}
-use Rattle.layout_rules.specs.Views.{view_length, view_buffer, view_offset}
-use Rattle.layout_rules.specs.Rules.{fault, fault_if}
+use Rattle.raw_array.specs.promise.Members.{members_of}
+use Rattle.layout_rules.specs.promise.Layout.{natural, data_buffers, data_length}
+use Rattle.layout_rules.specs.promise.Views.{view_length, view_buffer, view_offset}
+use Rattle.layout_rules.specs.promise.Rules.{fault, fault_if}
 use Rattle.layout_rules.proofs.Named.{named-no_buffer, named-before, named-behind, named-from, named-below}
 use Rattle.layout_check.proofs.Casts.{is_below, is_from, outside_is, cast_is, cast_below, cast_fits, sum_fits, widened, count_widened}
 use Rattle.layout_check.proofs.views.named_outside.Goals as goal

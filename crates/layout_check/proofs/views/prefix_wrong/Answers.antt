@@ -1,9 +1,9 @@
 use Rattle.std.proofs.Common.{◌≡◌, ◌+◌, ◌≤◌, ◌&&◌, ◌==◌, ℕ, ℤ, pos, not, Bool, true, ap, subst, sym, ◌∙◌, arith}
-use Rattle.raw_array.specs.Members.{members_of}
-use Rattle.layout_rules.specs.Views.{view_length, view_prefix, view_data, is_long}
-use Rattle.layout_rules.specs.Rules.{fault_if}
+use Rattle.raw_array.specs.promise.Members.{members_of}
+use Rattle.layout_rules.specs.promise.Views.{view_length, view_prefix, view_data, is_long}
+use Rattle.layout_rules.specs.promise.Rules.{fault_if}
 use Rattle.layout_check.proofs.Casts.{is_longer-gt}
-use Rattle.data_types.specs.Packed.{number_at}
+use Rattle.data_types.specs.promise.Packed.{number_at}
 use Rattle.layout_check.proofs.views.prefix_wrong.Goals as goal
 
 four_within : (n : ℕ) (y : ℤ) → is_long y ≡ true → pos n ≡ y → 0 + 4 ≤ n

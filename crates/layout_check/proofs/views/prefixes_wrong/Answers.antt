@@ -1,6 +1,6 @@
 use Rattle.std.proofs.Common.{◌≡◌, None, subst}
-use Rattle.raw_array.specs.Members.{members_of}
-use Rattle.layout_rules.specs.Rules.{views_misplaced}
+use Rattle.raw_array.specs.promise.Members.{members_of}
+use Rattle.layout_rules.specs.promise.Rules.{views_misplaced}
 use Rattle.layout_check.proofs.Readable.{views-some, views-validity, views-long, views-named}
 use Rattle.layout_check.proofs.views.prefixes_wrong.Goals as goal
 

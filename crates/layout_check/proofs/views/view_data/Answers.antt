@@ -1,7 +1,7 @@
 use Rattle.std.proofs.Common.{◌<◌, ◌+◌, ◌-◌, ◌≡◌, ℕ, Fits, length, w64, arith}
-use Rattle.raw_array.specs.Members.{members_of}
-use Rattle.layout_rules.specs.Layout.{natural}
-use Rattle.layout_rules.specs.Views.{view_length, view_buffer, view_offset}
+use Rattle.raw_array.specs.promise.Members.{members_of}
+use Rattle.layout_rules.specs.promise.Layout.{natural}
+use Rattle.layout_rules.specs.promise.Views.{view_length, view_buffer, view_offset}
 use Rattle.layout_check.proofs.Casts.{cast_is, cast_below, cast_fits, sum_fits, is_longer-gt}
 use Rattle.layout_check.proofs.views.view_data.Goals as goal
 

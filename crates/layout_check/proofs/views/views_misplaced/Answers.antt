@@ -1,4 +1,4 @@
-use Rattle.raw_array.specs.Members.{members_of}
+use Rattle.raw_array.specs.promise.Members.{members_of}
 use Rattle.layout_check.proofs.Readable.{views-some, views-validity, views-long, views-lengths}
 use Rattle.layout_check.proofs.views.views_misplaced.Goals as goal
 

@@ -1,6 +1,6 @@
 use Rattle.layout_check.proofs.Faults.{walks}
 use Rattle.std.proofs.Common.{rules, ◌≡◌, ◌<◌, ◌++◌, ◌∷◌, [], length, get_or, arith}
-use Rattle.tree_model.specs.Tree.{children_of}
+use Rattle.tree_model.specs.promise.TreeParts.{children_of}
 use Rattle.data_types.proofs.Levels.{levels-kid, kid-ok}
 use Rattle.layout_check.proofs.Passes.{none-step}
 use Rattle.layout_check.proofs.walk.+passes.Goals as goal

@@ -1,8 +1,11 @@
 use Rattle.std.proofs.Common.{◌≡◌, ◌+◌, ◌*◌, map, drop}
 use Rattle.std.specs.Prelude.{is_none}
-use Rattle.tree_model.specs.Tree.{children_of, trees, maybe_tree, Depth, depth_of_all, depth_of_maybe}
-use Rattle.data_types.specs.TypedView.{typed_of, dict_in}
-use Rattle.data_types.specs.Ways.{Steps}
+use Rattle.tree_model.specs.promise.TreeParts.{children_of}
+use Rattle.tree_model.specs.promise.TreeData.{trees, maybe_tree}
+use Rattle.tree_model.specs.Tree.{Depth, depth_of_all, depth_of_maybe}
+use Rattle.data_types.specs.promise.TypedView.{typed_of}
+use Rattle.data_types.specs.TypedView.{dict_in}
+use Rattle.data_types.specs.promise.Ways.{Steps}
 use Rattle.layout_rules.specs.Walk.{children_fault}
 use Rattle.layout_check.proofs.walk.+passes.Given as goal
 

@@ -1,4 +1,4 @@
-use Rattle.data_types.specs.TypedView.{typed_of}
+use Rattle.data_types.specs.promise.TypedView.{typed_of}
 use Rattle.layout_rules.proofs.ReadWithin.{lawful-no_fault, no_fault-lawful}
 use Rattle.layout_rules.proofs.laws.lawful_has_no_fault.Goals as goal
 

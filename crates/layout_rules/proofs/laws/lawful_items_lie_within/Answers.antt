@@ -1,10 +1,11 @@
 use Rattle.std.proofs.Common.{ℕ, ◌<◌, ◌≡◌, length, Some, get_or}
-use Rattle.tree_model.specs.Tree.{Released, child_at, dictionary_of}
-use Rattle.raw_array.specs.Members.{ArrayTree}
-use Rattle.data_types.specs.KindTrees.{KindTree}
+use Rattle.tree_model.specs.promise.TreeData.{Released}
+use Rattle.tree_model.specs.promise.TreeParts.{child_at, dictionary_of}
+use Rattle.raw_array.specs.promise.Members.{ArrayTree}
+use Rattle.data_types.specs.promise.KindTrees.{KindTree}
 use Rattle.data_types.specs.declared.typed.Typed.{out-Typed}
 use Rattle.data_types.specs.TypedView.{kids_of, dict_in}
-use Rattle.layout_rules.specs.Values.{tree_items}
+use Rattle.layout_rules.specs.promise.Values.{tree_items}
 use Rattle.layout_rules.proofs.Roots.{level_of, lawful-level}
 use Rattle.layout_rules.proofs.ReadWithin.{item-stored, child-needed, item-children, item-view, item-index, child-lawful, dictionary-lawful, kid-typed}
 use Rattle.layout_rules.proofs.ReadWithin.{dict-typed, live-of}

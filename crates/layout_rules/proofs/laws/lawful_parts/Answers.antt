@@ -1,5 +1,6 @@
 use Rattle.std.proofs.Common.{ℕ, ◌<◌, length, get_or}
-use Rattle.tree_model.specs.Tree.{Released, child_at}
+use Rattle.tree_model.specs.promise.TreeData.{Released}
+use Rattle.tree_model.specs.promise.TreeParts.{child_at}
 use Rattle.data_types.specs.declared.typed.Typed.{out-Typed}
 use Rattle.data_types.specs.TypedView.{kids_of}
 use Rattle.layout_rules.proofs.Roots.{level_of, lawful-level}

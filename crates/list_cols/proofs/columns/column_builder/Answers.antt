@@ -2,8 +2,8 @@ use Rattle.std.proofs.Common.{get_or, sym, subst}
 use Rattle.std.specs.Prelude.{IfOk}
 use Rattle.col_build.specs.Holding.{Holds}
 use Rattle.data_types.specs.declared.kind.DataType.TheVariants as kinds
-use Rattle.data_types.specs.TypedView.{typed_of}
-use Rattle.list_cols.specs.Exploded.{exploded_kinds}
+use Rattle.data_types.specs.promise.TypedView.{typed_of}
+use Rattle.list_cols.specs.promise.Exploded.{exploded_kinds}
 use Rattle.list_cols.specs.Spreading.{FitsAt, spread_values}
 use Rattle.list_cols.proofs.columns.column_builder.Goals as goal
 

@@ -1,7 +1,7 @@
 use Rattle.std.proofs.Common.{get_or}
 use Rattle.data_types.specs.declared.kind.DataType.TheVariants as kinds
-use Rattle.data_types.specs.TypedView.{typed_of}
-use Rattle.list_cols.specs.Exploded.{exploded_kinds}
+use Rattle.data_types.specs.promise.TypedView.{typed_of}
+use Rattle.list_cols.specs.promise.Exploded.{exploded_kinds}
 use Rattle.list_cols.specs.Spreading.{spread_values}
 use Rattle.list_cols.proofs.NewColumns.{made-blocks, made-cost, made-tree, made-units}
 use Rattle.list_cols.proofs.columns.new_column.Goals as goal

@@ -1,12 +1,13 @@
 use Rattle.std.proofs.Common.{rules, ◌∙◌, ◌≤◌, ◌<◌, ◌++◌, List, ◌∷◌, [], length, map, ap, sym, arith}
 use Rattle.std.proofs.lemmas.List.{take_all}
 use Rattle.arr_export.specs.ValueColumns.{tree_of}
-use Rattle.data_types.specs.TypedView.{typed_of}
-use Rattle.layout_rules.specs.Values.{rows_of}
-use Rattle.raw_array.specs.Members.{ArrayTree, cost_of_all}
-use Rattle.tree_model.specs.Tree.{trees}
-use Rattle.list_cols.specs.Exploded.{blocks_in, exploded_columns, exploded_kinds}
-use Rattle.list_cols.specs.Nested.{Explode}
+use Rattle.data_types.specs.promise.TypedView.{typed_of}
+use Rattle.layout_rules.specs.promise.Values.{rows_of}
+use Rattle.raw_array.specs.promise.Members.{ArrayTree}
+use Rattle.raw_array.specs.Members.{cost_of_all}
+use Rattle.tree_model.specs.promise.TreeData.{trees}
+use Rattle.list_cols.specs.promise.Exploded.{blocks_in, exploded_columns, exploded_kinds}
+use Rattle.list_cols.specs.promise.Nested.{Explode}
 use Rattle.list_cols.proofs.Chunks.{many-kinds}
 use Rattle.list_cols.proofs.NewColumns.{blocks-next, column-at, cost-push, many-columns, own_blocks, trees-next}
 use Rattle.list_cols.proofs.columns.new_columns.Goals as goal

@@ -1,11 +1,11 @@
 use Rattle.std.proofs.Common.{◌≡◌, ◌+◌, ◌*◌, ◌≤◌, map, take, vec_len}
 use Rattle.std.specs.Vec.{vec_capacity}
 use Rattle.arr_export.specs.ValueColumns.{tree_of}
-use Rattle.data_types.specs.TypedView.{typed_of}
+use Rattle.data_types.specs.promise.TypedView.{typed_of}
 use Rattle.raw_array.specs.Members.{cost_of_all}
-use Rattle.tree_model.specs.Tree.{trees}
-use Rattle.unit_pass.specs.Tally.{risen}
-use Rattle.list_cols.specs.Exploded.{blocks_in, exploded_columns}
+use Rattle.tree_model.specs.promise.TreeData.{trees}
+use Rattle.unit_pass.specs.promise.Tally.{risen}
+use Rattle.list_cols.specs.promise.Exploded.{blocks_in, exploded_columns}
 use Rattle.list_cols.proofs.columns.new_columns.Given as goal
 
 -- the columns so far, and room for the others

@@ -4,17 +4,17 @@ use Rattle.col_build.specs.Encoding.{Fits}
 use Rattle.col_build.specs.Holding.{Holds}
 use Rattle.column_fill.specs.Gathered.{values_of_runs}
 use Rattle.column_fill.specs.declared.runs.Run.{Run}
-use Rattle.data_types.specs.Table.{Flat}
-use Rattle.data_types.specs.Value.{Value}
+use Rattle.data_types.specs.promise.Table.{Flat}
+use Rattle.data_types.specs.promise.Value.{Value}
 use Rattle.data_types.specs.declared.kind.DataType.{DataType}
-use Rattle.data_types.specs.ColumnKinds.{type_of_kind}
-use Rattle.data_types.specs.KindTrees.{KindTree, kind_in}
-use Rattle.data_types.specs.TypedView.{typed_of}
-use Rattle.layout_rules.specs.Values.{tree_items}
-use Rattle.layout_rules.specs.Walk.{LayoutOk}
-use Rattle.raw_array.specs.Members.{ArrayTree}
-use Rattle.tree_model.specs.Tree.{child_at}
-use Rattle.column_fill.specs.FlatColumns.{is_flat_column}
+use Rattle.data_types.specs.promise.ColumnKinds.{type_of_kind}
+use Rattle.data_types.specs.promise.KindTrees.{KindTree, kind_in}
+use Rattle.data_types.specs.promise.TypedView.{typed_of}
+use Rattle.layout_rules.specs.promise.Values.{tree_items}
+use Rattle.layout_rules.specs.promise.Walk.{LayoutOk}
+use Rattle.raw_array.specs.promise.Members.{ArrayTree}
+use Rattle.tree_model.specs.promise.TreeParts.{child_at}
+use Rattle.column_fill.specs.promise.FlatColumns.{is_flat_column}
 use Rattle.list_cols.specs.Spreading.{chunk_runs, spread_values}
 use Rattle.list_cols.proofs.ChunkItems.{flat-live, runs-inside}
 use Rattle.list_cols.proofs.Chunks.{chunk-is, other-kind, other-values}

@@ -4,13 +4,13 @@ use Rattle.arr_import.specs.Cols.{window_of}
 use Rattle.arr_import.specs.Window.{item_at}
 use Rattle.col_build.specs.Encoding.{Fits}
 use Rattle.col_build.specs.Holding.{Holds}
-use Rattle.data_types.specs.Value.{Value}
+use Rattle.data_types.specs.promise.Value.{Value}
 use Rattle.data_types.specs.declared.kind.DataType.{DataType}
-use Rattle.data_types.specs.KindTrees.{KindTree, kind_in}
-use Rattle.data_types.specs.TypedView.{typed_of}
-use Rattle.layout_rules.specs.Values.{tree_items}
-use Rattle.tree_model.specs.Tree.{child_at, children_of}
-use Rattle.column_fill.specs.FlatColumns.{is_flat_column}
+use Rattle.data_types.specs.promise.KindTrees.{KindTree, kind_in}
+use Rattle.data_types.specs.promise.TypedView.{typed_of}
+use Rattle.layout_rules.specs.promise.Values.{tree_items}
+use Rattle.tree_model.specs.promise.TreeParts.{child_at, children_of}
+use Rattle.column_fill.specs.promise.FlatColumns.{is_flat_column}
 use Rattle.list_cols.specs.Listed.{listed}
 use Rattle.list_cols.specs.Spreading.{list_at, spread_values}
 use Rattle.list_cols.proofs.Chunks.{chunk-is, own-kind, own-values}

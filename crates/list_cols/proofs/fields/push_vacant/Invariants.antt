@@ -1,5 +1,5 @@
 use Rattle.std.proofs.Common.{◌≡◌, ◌+◌, ◌++◌, replicate, vec_len, vec_capacity}
-use Rattle.tree_model.specs.Tree.{Released}
+use Rattle.tree_model.specs.promise.TreeData.{Released}
 use Rattle.list_cols.proofs.fields.push_vacant.Given as goal
 
 -- as many fields are behind those before them as places were counted

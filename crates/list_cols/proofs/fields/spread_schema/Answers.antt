@@ -1,8 +1,12 @@
 use Rattle.std.proofs.Common.{◌≡◌, ◌∙◌, ◌+◌, ◌-◌, ap, subst, length, arith}
 use Rattle.std.specs.Prelude.{IfOk, MatchResult}
-use Rattle.tree_model.specs.Tree.{child_at, children_of, depth_of_all, trees}
+use Rattle.tree_model.specs.promise.TreeParts.{child_at, children_of}
+use Rattle.tree_model.specs.promise.TreeData.{trees}
+use Rattle.tree_model.specs.Tree.{depth_of_all}
 use Rattle.arr_move.specs.TreeActs.{with_children}
-use Rattle.raw_schema.specs.Members.{Nodes, SchemaTree, nodes_of_all}
+use Rattle.tree_model.specs.promise.TreeCost.{Nodes}
+use Rattle.raw_schema.specs.promise.Members.{SchemaTree}
+use Rattle.raw_schema.specs.Members.{nodes_of_all}
 use Rattle.arr_move.specs.Fields.{fields_over}
 use Rattle.list_cols.specs.Fields.{item_field}
 use Rattle.list_cols.proofs.OneField.{one-nodes, one-put, one-shallow}

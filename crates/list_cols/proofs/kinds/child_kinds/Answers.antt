@@ -1,6 +1,6 @@
 use Rattle.std.proofs.Common.{◌∙◌, ◌<◌, List, length, get_or, ap, sym, arith}
-use Rattle.tree_model.specs.Tree.{Released}
-use Rattle.data_types.specs.KindTrees.{KindTree}
+use Rattle.tree_model.specs.promise.TreeData.{Released}
+use Rattle.data_types.specs.promise.KindTrees.{KindTree}
 use Rattle.data_types.specs.TypedView.{kids_of}
 use Rattle.data_types.specs.declared.typed.Typed.{out-Typed}
 use Rattle.list_cols.proofs.Kids.{kid-is, kid-ok, kids-are, many-kids}

@@ -9,10 +9,10 @@ use Rattle.arr_import.specs.Window.{Window, item_at}
 use Rattle.col_build.specs.Encoding.{Fits}
 use Rattle.col_build.specs.Holding.{Holds}
 use Rattle.column_fill.proofs.Taken.{run-split}
-use Rattle.data_types.specs.Value.{Value, Null}
+use Rattle.data_types.specs.promise.Value.{Value, Null}
 use Rattle.data_types.specs.declared.kind.DataType.{DataType}
-use Rattle.layout_rules.specs.Values.{each}
-use Rattle.list_cols.specs.Nested.{items_in}
+use Rattle.layout_rules.specs.promise.Values.{each}
+use Rattle.list_cols.specs.promise.Nested.{items_in}
 use Rattle.list_cols.proofs.lists.list_items.Goals as goal
 
 abbrev all : Window → List Value

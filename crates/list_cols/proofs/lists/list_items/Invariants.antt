@@ -3,8 +3,8 @@ use Rattle.std.specs.List.{flat_map}
 use Rattle.arr_import.specs.Cols.{window_of}
 use Rattle.arr_import.specs.Window.{item_at}
 use Rattle.col_build.specs.Holding.{Holds}
-use Rattle.layout_rules.specs.Values.{each}
-use Rattle.list_cols.specs.Nested.{items_in}
+use Rattle.layout_rules.specs.promise.Values.{each}
+use Rattle.list_cols.specs.promise.Nested.{items_in}
 use Rattle.list_cols.proofs.lists.list_items.Given as goal
 
 -- the builder holds the items of the lists so far

@@ -7,8 +7,8 @@ use Rattle.arr_import.specs.Window.{Window, item_at, items_of}
 use Rattle.col_build.specs.Holding.{Holds}
 use Rattle.column_fill.specs.Takes.{Takes}
 use Rattle.column_fill.proofs.Taken.{takes-one}
-use Rattle.data_types.specs.Value.{Value, Null}
-use Rattle.layout_rules.specs.Values.{value_at}
+use Rattle.data_types.specs.promise.Value.{Value, Null}
+use Rattle.layout_rules.specs.promise.Values.{value_at}
 use Rattle.list_cols.specs.Listed.{AddsAll}
 use Rattle.list_cols.proofs.lists.push_items.Goals as goal
 

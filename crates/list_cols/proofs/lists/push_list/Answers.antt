@@ -2,7 +2,7 @@ use Rattle.std.proofs.Common.{◌∙◌, ◌++◌, List, ap, sym, subst}
 use Rattle.std.specs.Prelude.{OnOk}
 use Rattle.std.proofs.lemmas.List.{append-nil}
 use Rattle.col_build.specs.Holding.{Holds}
-use Rattle.data_types.specs.Value.{Value}
+use Rattle.data_types.specs.promise.Value.{Value}
 use Rattle.list_cols.specs.Listed.{AddsAll, TakesAll}
 use Rattle.list_cols.proofs.lists.push_list.Goals as goal
 

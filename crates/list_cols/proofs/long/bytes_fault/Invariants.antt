@@ -1,5 +1,5 @@
 use Rattle.std.proofs.Common.{ℕ, ◌<◌}
-use Rattle.data_types.specs.TypedView.{typed_of}
+use Rattle.data_types.specs.promise.TypedView.{typed_of}
 use Rattle.list_cols.specs.Spreading.{FitsAt}
 use Rattle.list_cols.proofs.long.bytes_fault.Given as goal
 

@@ -1,15 +1,16 @@
 use Rattle.std.proofs.Common.{◌≡◌, ◌∙◌, ◌<◌, All, List, length, ap, sym, subst, arith}
 use Rattle.arr_import.specs.Cols.{window_of}
 use Rattle.arr_import.specs.Window.{item_at}
-use Rattle.data_types.specs.Value.{Value}
-use Rattle.data_types.specs.KindTrees.{KindTree, TypedOk, kind_in}
-use Rattle.data_types.specs.TypedView.{typed_of}
-use Rattle.layout_rules.specs.Values.{tree_items}
-use Rattle.layout_rules.specs.Walk.{LayoutOk}
+use Rattle.data_types.specs.promise.Value.{Value}
+use Rattle.data_types.specs.promise.KindTrees.{KindTree, kind_in}
+use Rattle.data_types.specs.KindTrees.{TypedOk}
+use Rattle.data_types.specs.promise.TypedView.{typed_of}
+use Rattle.layout_rules.specs.promise.Values.{tree_items}
+use Rattle.layout_rules.specs.promise.Walk.{LayoutOk}
 use Rattle.array_laws.specs.Items.{IsItemOf}
-use Rattle.raw_array.specs.Members.{ArrayTree}
-use Rattle.tree_model.specs.Tree.{child_at, children_of}
-use Rattle.column_fill.specs.FlatColumns.{is_flat_column}
+use Rattle.raw_array.specs.promise.Members.{ArrayTree}
+use Rattle.tree_model.specs.promise.TreeParts.{child_at, children_of}
+use Rattle.column_fill.specs.promise.FlatColumns.{is_flat_column}
 use Rattle.list_cols.specs.Listed.{listed}
 use Rattle.list_cols.specs.Spreading.{list_at}
 use Rattle.list_cols.proofs.ChunkItems.{list-live, own-items}

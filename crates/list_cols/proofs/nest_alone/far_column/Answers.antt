@@ -1,10 +1,10 @@
 use Rattle.std.proofs.Common.{◌∙◌, List, None, ap, sym, subst, arith}
-use Rattle.data_types.specs.Table.{Flat}
-use Rattle.data_types.specs.Value.{Value}
-use Rattle.raw_array.specs.Members.{Cost}
-use Rattle.data_types.specs.ColumnKinds.{type_of_kind}
+use Rattle.data_types.specs.promise.Table.{Flat}
+use Rattle.data_types.specs.promise.Value.{Value}
+use Rattle.raw_array.specs.promise.Members.{Cost}
+use Rattle.data_types.specs.promise.ColumnKinds.{type_of_kind}
 use Rattle.data_types.specs.TypedView.{kind_of}
-use Rattle.arr_export.specs.ArrayTrees.{column_tree}
+use Rattle.arr_export.specs.promise.ArrayTrees.{column_tree}
 use Rattle.column_fill.proofs.ColumnCosts.{column-cost, few-blocks}
 use Rattle.column_fill.specs.Gathered.{CanGatherRuns, values_of_runs}
 use Rattle.list_cols.proofs.NestedKids.{runs-values}

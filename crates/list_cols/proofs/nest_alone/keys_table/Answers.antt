@@ -1,16 +1,18 @@
 use Rattle.std.proofs.Common.{◌≡◌, ◌∙◌, ◌≤◌, ◌+◌, ◌^◌, ◌∷◌, [], ℕ, length, map, None, ap, sym, subst, arith}
 use Rattle.std.proofs.lemmas.List.{length-map}
-use Rattle.data_types.specs.Table.{Flat}
-use Rattle.tree_model.specs.Tree.{child_at, children_of}
-use Rattle.raw_array.specs.Members.{members_of}
-use Rattle.data_types.specs.ColumnKinds.{type_of_kind}
-use Rattle.data_types.specs.KindTrees.{kind_in}
-use Rattle.data_types.specs.TypedView.{kind_of, typed_of}
-use Rattle.layout_rules.specs.Layout.{first}
-use Rattle.layout_rules.specs.Values.{rows_of, value_at}
-use Rattle.arr_export.specs.ArrayTrees.{IsColumn, column_tree, table_tree}
+use Rattle.data_types.specs.promise.Table.{Flat}
+use Rattle.tree_model.specs.promise.TreeParts.{child_at, children_of}
+use Rattle.raw_array.specs.promise.Members.{members_of}
+use Rattle.data_types.specs.promise.ColumnKinds.{type_of_kind}
+use Rattle.data_types.specs.promise.KindTrees.{kind_in}
+use Rattle.data_types.specs.promise.TypedView.{typed_of}
+use Rattle.data_types.specs.TypedView.{kind_of}
+use Rattle.layout_rules.specs.promise.Layout.{first}
+use Rattle.layout_rules.specs.promise.Values.{rows_of, value_at}
+use Rattle.arr_export.specs.promise.ArrayTrees.{column_tree, table_tree}
+use Rattle.arr_export.specs.ArrayTrees.{IsColumn}
 use Rattle.column_fill.specs.Gathered.{values_at}
-use Rattle.list_cols.specs.NestedTables.{keys_of, nested_column}
+use Rattle.list_cols.specs.promise.NestedTables.{keys_of, nested_column}
 use Rattle.list_cols.proofs.NestedKids.{can-runs, key-column, key-fit, kid-here, near-firsts}
 use Rattle.list_cols.proofs.NestedWhole.{few-keys, lone-array, lone-fit, many-rows, one-column}
 use Rattle.list_cols.proofs.nest_alone.keys_table.Goals as goal

@@ -1,6 +1,6 @@
 use Rattle.std.proofs.Common.{◌≤◌, List, length, subst}
-use Rattle.data_types.specs.Value.{Value}
-use Rattle.data_types.specs.Groups.{distinct}
+use Rattle.data_types.specs.promise.Value.{Value}
+use Rattle.data_types.specs.promise.Groups.{distinct}
 use Rattle.row_groups.specs.Items.{IsRefusedFor, most_groups}
 use Rattle.list_cols.proofs.NestedKids.{are-firsts, keys-are, kid-form, kid-here, kid-reach, kid-typed}
 use Rattle.list_cols.proofs.nest_alone.only_firsts.Goals as goal

@@ -2,7 +2,7 @@ use Rattle.std.proofs.Common.{◌≡◌, [], sym, subst, to_z, w64, arith}
 use Rattle.std.proofs.lemmas.Int.{ints}
 use Rattle.std.specs.List.{All}
 use Rattle.std.proofs.lemmas.List.Elements.{All-cons, All-nil}
-use Rattle.layout_rules.specs.Layout.{natural}
+use Rattle.layout_rules.specs.promise.Layout.{natural}
 use Rattle.arr_export.specs.ArrayTrees.{IsColumn}
 use Rattle.list_cols.proofs.nest_alone.table_of_one.Goals as goal
 

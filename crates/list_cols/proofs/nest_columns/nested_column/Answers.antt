@@ -1,17 +1,19 @@
 use Rattle.std.proofs.Common.{◌≡◌, ◌∙◌, ℕ, IfOk, OnOk, None, map, ap, sym, subst}
 use Rattle.std.specs.Prelude.{Result, Ok, Err}
-use Rattle.tree_model.specs.Tree.{children_of}
-use Rattle.raw_array.specs.Members.{ArrayTree}
-use Rattle.data_types.specs.KindTrees.{kind_in}
-use Rattle.data_types.specs.TypedView.{kind_of, typed_of}
-use Rattle.layout_rules.specs.Values.{rows_of}
-use Rattle.arr_export.specs.ArrayTrees.{column_tree}
+use Rattle.tree_model.specs.promise.TreeParts.{children_of}
+use Rattle.raw_array.specs.promise.Members.{ArrayTree}
+use Rattle.data_types.specs.promise.KindTrees.{kind_in}
+use Rattle.data_types.specs.promise.TypedView.{typed_of}
+use Rattle.data_types.specs.TypedView.{kind_of}
+use Rattle.layout_rules.specs.promise.Values.{rows_of}
+use Rattle.arr_export.specs.promise.ArrayTrees.{column_tree}
 use Rattle.column_fill.specs.Gathered.{CanGather, values_at}
-use Rattle.data_types.specs.Table.{Flat}
-use Rattle.data_types.specs.ColumnKinds.{type_of_kind}
-use Rattle.list_cols.specs.ListTrees.{list_tree}
+use Rattle.data_types.specs.promise.Table.{Flat}
+use Rattle.data_types.specs.promise.ColumnKinds.{type_of_kind}
+use Rattle.list_cols.specs.promise.ListTrees.{list_tree}
 use Rattle.list_cols.specs.NestedGroups.{AreFirsts, HasItems, grouped_lists, row_keys}
-use Rattle.list_cols.specs.NestedTables.{FitColumn, nested_column}
+use Rattle.list_cols.specs.promise.NestedTables.{nested_column}
+use Rattle.list_cols.specs.NestedTables.{FitColumn}
 use Rattle.list_cols.proofs.NestedKids.{can-first, few-keys, has-items, key-column, key-fit, kid-here, list-column, list-fit}
 use Rattle.list_cols.proofs.nest_columns.nested_column.Goals as goal
 

@@ -1,11 +1,14 @@
 use Rattle.std.proofs.Common.{◌≡◌, ◌≤◌, ◌<◌, ◌+◌, ◌-◌, ◌*◌, ℕ, length, map, vec_len, vec_capacity}
-use Rattle.tree_model.specs.Tree.{children_of, trees}
+use Rattle.tree_model.specs.promise.TreeParts.{children_of}
+use Rattle.tree_model.specs.promise.TreeData.{trees}
 use Rattle.raw_array.specs.Members.{cost_of_all}
-use Rattle.data_types.specs.KindTrees.{kind_in}
-use Rattle.data_types.specs.TypedView.{kids_of, typed_of}
-use Rattle.layout_rules.specs.Values.{each, rows_of}
-use Rattle.unit_pass.specs.Tally.{risen}
-use Rattle.list_cols.specs.NestedTables.{FitColumn, nested_column, nodes_to}
+use Rattle.data_types.specs.promise.KindTrees.{kind_in}
+use Rattle.data_types.specs.promise.TypedView.{typed_of}
+use Rattle.data_types.specs.TypedView.{kids_of}
+use Rattle.layout_rules.specs.promise.Values.{each, rows_of}
+use Rattle.unit_pass.specs.promise.Tally.{risen}
+use Rattle.list_cols.specs.promise.NestedTables.{nested_column}
+use Rattle.list_cols.specs.NestedTables.{FitColumn, nodes_to}
 use Rattle.list_cols.proofs.nest_columns.nested_columns.Given as goal
 
 -- the columns so far, and room for the others

@@ -2,16 +2,18 @@ use Rattle.std.proofs.Common.{◌≡◌, ◌∙◌, ◌<◌, ◌∷◌, [], leng
 use Rattle.std.proofs.lemmas.Int.{ints}
 use Rattle.std.proofs.lemmas.List.{length-map}
 use Rattle.std.specs.List.{All, flat_map}
-use Rattle.data_types.specs.Packed.{le_bytes}
-use Rattle.data_types.specs.Table.{Flat}
-use Rattle.data_types.specs.Value.{Value}
-use Rattle.tree_model.specs.Tree.{Live, absent, trees}
-use Rattle.data_types.specs.ColumnKinds.{type_of_kind}
-use Rattle.data_types.specs.TypedView.{kind_of, typed_of}
-use Rattle.layout_rules.specs.Layout.{natural}
+use Rattle.data_types.specs.promise.Packed.{le_bytes}
+use Rattle.data_types.specs.promise.Table.{Flat}
+use Rattle.data_types.specs.promise.Value.{Value}
+use Rattle.tree_model.specs.promise.TreeData.{Live, absent, trees}
+use Rattle.data_types.specs.promise.ColumnKinds.{type_of_kind}
+use Rattle.data_types.specs.promise.TypedView.{typed_of}
+use Rattle.data_types.specs.TypedView.{kind_of}
+use Rattle.layout_rules.specs.promise.Layout.{natural}
 use Rattle.array_laws.specs.Items.{AreApart}
-use Rattle.data_types.specs.Groups.{distinct, places_of}
-use Rattle.list_cols.specs.ListTrees.{list_members}
+use Rattle.data_types.specs.promise.Groups.{distinct}
+use Rattle.data_types.specs.Groups.{places_of}
+use Rattle.list_cols.specs.promise.ListTrees.{list_members}
 use Rattle.list_cols.proofs.ListEnds.{length-ends}
 use Rattle.list_cols.proofs.NestedGather.{can-pick, group-tree}
 use Rattle.list_cols.proofs.NestedRows.{few-distinct}

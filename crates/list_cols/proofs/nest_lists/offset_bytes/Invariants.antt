@@ -1,6 +1,6 @@
 use Rattle.std.proofs.Common.{◌≡◌, take}
 use Rattle.std.specs.List.{flat_map}
-use Rattle.data_types.specs.Packed.{le_bytes}
+use Rattle.data_types.specs.promise.Packed.{le_bytes}
 use Rattle.list_cols.proofs.nest_lists.offset_bytes.Given as goal
 
 -- the bytes of the offsets so far

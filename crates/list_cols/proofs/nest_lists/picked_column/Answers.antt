@@ -1,7 +1,7 @@
 use Rattle.std.proofs.Common.{◌∙◌, None, ap, arith}
-use Rattle.data_types.specs.Table.{Flat}
-use Rattle.raw_array.specs.Members.{Cost}
-use Rattle.data_types.specs.ColumnKinds.{type_of_kind}
+use Rattle.data_types.specs.promise.Table.{Flat}
+use Rattle.raw_array.specs.promise.Members.{Cost}
+use Rattle.data_types.specs.promise.ColumnKinds.{type_of_kind}
 use Rattle.data_types.specs.TypedView.{kind_of}
 use Rattle.column_fill.proofs.ColumnCosts.{column-cost, few-blocks}
 use Rattle.column_fill.specs.Gathered.{values_at}

@@ -1,9 +1,11 @@
 use Rattle.std.proofs.Common.{◌≡◌, ◌∙◌, ap, subst, length, arith}
 use Rattle.std.specs.Prelude.{IfOk}
-use Rattle.tree_model.specs.Tree.{children_of, depth_of_all, trees}
+use Rattle.tree_model.specs.promise.TreeParts.{children_of}
+use Rattle.tree_model.specs.promise.TreeData.{trees}
+use Rattle.tree_model.specs.Tree.{depth_of_all}
 use Rattle.arr_export.proofs.Each.{length-each}
 use Rattle.arr_move.specs.TreeActs.{with_children}
-use Rattle.raw_schema.specs.Members.{SchemaTree}
+use Rattle.raw_schema.specs.promise.Members.{SchemaTree}
 use Rattle.arr_move.specs.Fields.{fields_over}
 use Rattle.list_cols.specs.NestedFields.{new_field}
 use Rattle.list_cols.proofs.NestedPlaces.{fields-shallow, over-all}

@@ -1,7 +1,7 @@
 use Rattle.std.proofs.Common.{◌≡◌, ◌∙◌, ◌+◌, ◌++◌, [], ◌∷◌, ap, sym, arith}
-use Rattle.tree_model.specs.Tree.{trees}
+use Rattle.tree_model.specs.promise.TreeData.{trees}
 use Rattle.raw_schema.specs.Members.{nodes_of_all}
-use Rattle.layout_rules.specs.Values.{each}
+use Rattle.layout_rules.specs.promise.Values.{each}
 use Rattle.list_cols.specs.NestedFields.{new_field}
 use Rattle.list_cols.proofs.ListItems.{each-next}
 use Rattle.list_cols.proofs.NestedNodes.{nodes-next}

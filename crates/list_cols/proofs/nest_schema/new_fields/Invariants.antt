@@ -1,9 +1,10 @@
 use Rattle.std.proofs.Common.{◌≡◌, ◌≤◌, ◌+◌, ◌*◌, length, vec_len, vec_capacity}
-use Rattle.tree_model.specs.Tree.{children_of, trees}
+use Rattle.tree_model.specs.promise.TreeParts.{children_of}
+use Rattle.tree_model.specs.promise.TreeData.{trees}
 use Rattle.raw_schema.specs.Members.{nodes_of_all}
-use Rattle.layout_rules.specs.Values.{each}
+use Rattle.layout_rules.specs.promise.Values.{each}
 use Rattle.list_cols.specs.NestedFields.{new_field}
-use Rattle.unit_pass.specs.Tally.{risen}
+use Rattle.unit_pass.specs.promise.Tally.{risen}
 use Rattle.list_cols.specs.NestedTables.{nodes_to}
 use Rattle.list_cols.proofs.nest_schema.new_fields.Given as goal
 

@@ -2,14 +2,16 @@ use Rattle.std.proofs.Common.{◌≡◌, ◌∙◌, ◌<◌, length, map, to_z, 
 use Rattle.std.proofs.lemmas.Int.{ints}
 use Rattle.std.proofs.lemmas.List.{length-map}
 use Rattle.std.specs.List.{All}
-use Rattle.tree_model.specs.Tree.{children_of}
-use Rattle.data_types.specs.KindTrees.{kind_in}
-use Rattle.data_types.specs.TypedView.{kids_of, typed_of}
-use Rattle.layout_rules.specs.Layout.{natural}
-use Rattle.layout_rules.specs.Values.{each, rows_of}
-use Rattle.arr_export.specs.ArrayTrees.{IsColumn, table_tree}
+use Rattle.tree_model.specs.promise.TreeParts.{children_of}
+use Rattle.data_types.specs.promise.KindTrees.{kind_in}
+use Rattle.data_types.specs.promise.TypedView.{typed_of}
+use Rattle.data_types.specs.TypedView.{kids_of}
+use Rattle.layout_rules.specs.promise.Layout.{natural}
+use Rattle.layout_rules.specs.promise.Values.{each, rows_of}
+use Rattle.arr_export.specs.promise.ArrayTrees.{table_tree}
+use Rattle.arr_export.specs.ArrayTrees.{IsColumn}
 use Rattle.arr_export.proofs.Each.{length-each}
-use Rattle.list_cols.specs.NestedTables.{keys_of, nested_column}
+use Rattle.list_cols.specs.promise.NestedTables.{keys_of, nested_column}
 use Rattle.list_cols.proofs.Kids.{kids-are}
 use Rattle.list_cols.proofs.NestedNodes.{nodes-all}
 use Rattle.list_cols.proofs.NestedWhole.{all-columns, few-keys, many-rows}

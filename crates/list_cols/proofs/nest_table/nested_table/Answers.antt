@@ -1,7 +1,7 @@
 use Rattle.std.proofs.Common.{length, arith}
-use Rattle.tree_model.specs.Tree.{children_of}
-use Rattle.data_types.specs.TypedView.{typed_of}
-use Rattle.layout_rules.specs.Values.{rows_of}
+use Rattle.tree_model.specs.promise.TreeParts.{children_of}
+use Rattle.data_types.specs.promise.TypedView.{typed_of}
+use Rattle.layout_rules.specs.promise.Values.{rows_of}
 use Rattle.list_cols.proofs.NestedWhole.{many-rows, rows-short}
 use Rattle.list_cols.proofs.nest_table.nested_table.Goals as goal
 

@@ -1,14 +1,14 @@
 use Rattle.std.proofs.Common.{◌≡◌, None, length, map, ap, sym, subst, arith, rules}
-use Rattle.tree_model.specs.Tree.{children_of}
-use Rattle.raw_array.specs.Members.{Cost}
-use Rattle.raw_schema.specs.Members.{SchemaTree}
-use Rattle.data_types.specs.KindTrees.{kind_in}
-use Rattle.data_types.specs.TypedView.{typed_of}
-use Rattle.layout_rules.specs.Values.{rows_of}
-use Rattle.layout_rules.specs.Walk.{ChunkOk}
-use Rattle.schema_check.specs.Schemas.{TypedOf}
-use Rattle.list_cols.specs.Faults.{first_wrong}
-use Rattle.list_cols.specs.NestFaults.{nests}
+use Rattle.tree_model.specs.promise.TreeParts.{children_of}
+use Rattle.raw_array.specs.promise.Members.{Cost}
+use Rattle.raw_schema.specs.promise.Members.{SchemaTree}
+use Rattle.data_types.specs.promise.KindTrees.{kind_in}
+use Rattle.data_types.specs.promise.TypedView.{typed_of}
+use Rattle.layout_rules.specs.promise.Values.{rows_of}
+use Rattle.layout_rules.specs.promise.Walk.{ChunkOk}
+use Rattle.schema_check.specs.promise.Schemas.{TypedOf}
+use Rattle.list_cols.specs.promise.Faults.{first_wrong}
+use Rattle.list_cols.specs.promise.NestFaults.{nests}
 use Rattle.list_cols.specs.NestedTables.{nested_type}
 use Rattle.list_cols.proofs.Kids.{kids-are, level-live}
 use Rattle.list_cols.proofs.NestedNodes.{nodes-all}

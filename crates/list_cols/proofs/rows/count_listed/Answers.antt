@@ -2,7 +2,7 @@ use Rattle.std.proofs.Common.{◌+◌, ◌≤◌, length, List, arith}
 use Rattle.std.proofs.lemmas.List.{length-append}
 use Rattle.arr_import.specs.Cols.{window_of}
 use Rattle.arr_import.specs.Window.{item_at}
-use Rattle.data_types.specs.Value.{Value}
+use Rattle.data_types.specs.promise.Value.{Value}
 use Rattle.list_cols.proofs.Counted.{list-next, list-within}
 use Rattle.list_cols.proofs.rows.count_listed.Goals as goal
 

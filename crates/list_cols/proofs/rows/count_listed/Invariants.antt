@@ -1,7 +1,7 @@
 use Rattle.std.proofs.Common.{◌≡◌, ◌≤◌, length}
 use Rattle.arr_import.specs.Cols.{window_of}
 use Rattle.arr_import.specs.Window.{item_at}
-use Rattle.list_cols.specs.Faults.{most_named}
+use Rattle.list_cols.specs.promise.Faults.{most_named}
 use Rattle.list_cols.specs.Listed.{listed}
 use Rattle.list_cols.proofs.rows.count_listed.Given as goal
 

@@ -1,5 +1,5 @@
 use Rattle.std.proofs.Common.{◌∙◌, ℕ, length, sym, subst}
-use Rattle.data_types.specs.TypedView.{typed_of}
+use Rattle.data_types.specs.promise.TypedView.{typed_of}
 use Rattle.list_cols.specs.Faults.{IsNamed}
 use Rattle.list_cols.specs.Listed.{listed}
 use Rattle.list_cols.proofs.Chunks.{chunk-is, many-rows}

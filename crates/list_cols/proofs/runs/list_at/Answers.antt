@@ -2,8 +2,8 @@ use Rattle.std.proofs.Common.{◌≡◌, ◌∙◌, pos, to_z, w64, ap, sym, ari
 use Rattle.std.proofs.lemmas.Int.{ints}
 use Rattle.arr_import.specs.Cols.{window_of}
 use Rattle.arr_import.specs.Window.{item_at}
-use Rattle.layout_rules.specs.Layout.{natural}
-use Rattle.list_cols.specs.Nested.{items_in}
+use Rattle.layout_rules.specs.promise.Layout.{natural}
+use Rattle.list_cols.specs.promise.Nested.{items_in}
 use Rattle.list_cols.proofs.ListItems.{window-items}
 use Rattle.list_cols.proofs.runs.list_at.Goals as goal
 

@@ -1,14 +1,15 @@
 use Rattle.std.proofs.Common.{◌≡◌, ◌∙◌, All, List, ℕ, length, pos, to_z, w64, ap, sym, subst, arith}
 use Rattle.std.proofs.lemmas.Int.{ints}
 use Rattle.std.proofs.lemmas.List.{length-map}
-use Rattle.arr_export.specs.ArrayTrees.{IsColumn, table_tree}
+use Rattle.arr_export.specs.promise.ArrayTrees.{table_tree}
+use Rattle.arr_export.specs.ArrayTrees.{IsColumn}
 use Rattle.arr_export.specs.ValueColumns.{tree_of}
-use Rattle.data_types.specs.TypedView.{typed_of}
-use Rattle.layout_rules.specs.Layout.{natural}
-use Rattle.layout_rules.specs.Values.{rows_of}
-use Rattle.raw_array.specs.Members.{ArrayTree}
-use Rattle.list_cols.specs.Exploded.{exploded_columns, exploded_kinds}
-use Rattle.list_cols.specs.Nested.{Explode}
+use Rattle.data_types.specs.promise.TypedView.{typed_of}
+use Rattle.layout_rules.specs.promise.Layout.{natural}
+use Rattle.layout_rules.specs.promise.Values.{rows_of}
+use Rattle.raw_array.specs.promise.Members.{ArrayTree}
+use Rattle.list_cols.specs.promise.Exploded.{exploded_columns, exploded_kinds}
+use Rattle.list_cols.specs.promise.Nested.{Explode}
 use Rattle.list_cols.proofs.Chunks.{many-kinds}
 use Rattle.list_cols.proofs.NewColumns.{are-columns, many-columns}
 use Rattle.list_cols.proofs.table.made_table.Goals as goal

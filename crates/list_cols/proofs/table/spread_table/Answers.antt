@@ -1,4 +1,4 @@
-use Rattle.data_types.specs.TypedView.{typed_of}
+use Rattle.data_types.specs.promise.TypedView.{typed_of}
 use Rattle.list_cols.proofs.TooLong.{short-enough, wide-fault}
 use Rattle.list_cols.proofs.table.spread_table.Goals as goal
 

@@ -1,8 +1,8 @@
 use Rattle.std.proofs.Common.{◌+◌, ◌≤◌, arith}
 use Rattle.arr_import.specs.Cols.{window_of}
 use Rattle.arr_import.specs.Window.{item_at}
-use Rattle.data_types.specs.Value.{byte_total}
-use Rattle.layout_rules.specs.Values.{value_at}
+use Rattle.data_types.specs.promise.Value.{byte_total}
+use Rattle.layout_rules.specs.promise.Values.{value_at}
 use Rattle.list_cols.proofs.Counted.{item-next, item-within}
 use Rattle.list_cols.proofs.Sums.{total-append, total-one}
 use Rattle.list_cols.proofs.totals.items_bytes.Goals as goal

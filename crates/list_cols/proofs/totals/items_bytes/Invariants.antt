@@ -1,7 +1,7 @@
 use Rattle.std.proofs.Common.{◌≡◌, ◌+◌, ◌<◌, ◌^◌}
 use Rattle.arr_import.specs.Cols.{window_of}
-use Rattle.data_types.specs.Value.{byte_total}
-use Rattle.layout_rules.specs.Values.{each, value_at}
+use Rattle.data_types.specs.promise.Value.{byte_total}
+use Rattle.layout_rules.specs.promise.Values.{each, value_at}
 use Rattle.list_cols.proofs.totals.items_bytes.Given as goal
 
 -- the bytes of the items so far

@@ -1,5 +1,5 @@
 use Rattle.std.proofs.Common.{◌+◌, ℕ, List, ap, sym, subst, arith}
-use Rattle.data_types.specs.Value.{Value, byte_total}
+use Rattle.data_types.specs.promise.Value.{Value, byte_total}
 use Rattle.list_cols.specs.Listed.{HasTotal}
 use Rattle.list_cols.proofs.totals.list_bytes.Goals as goal
 

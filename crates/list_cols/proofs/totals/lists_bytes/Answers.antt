@@ -1,7 +1,7 @@
 use Rattle.std.proofs.Common.{◌+◌, ◌≤◌, arith}
 use Rattle.arr_import.specs.Cols.{window_of}
 use Rattle.arr_import.specs.Window.{item_at}
-use Rattle.data_types.specs.Value.{byte_total}
+use Rattle.data_types.specs.promise.Value.{byte_total}
 use Rattle.list_cols.proofs.Counted.{list-next, list-within}
 use Rattle.list_cols.proofs.Sums.{total-append}
 use Rattle.list_cols.proofs.totals.lists_bytes.Goals as goal

@@ -1,7 +1,7 @@
 use Rattle.std.proofs.Common.{◌≡◌, ◌<◌, ◌^◌}
 use Rattle.arr_import.specs.Cols.{window_of}
 use Rattle.arr_import.specs.Window.{item_at}
-use Rattle.data_types.specs.Value.{byte_total}
+use Rattle.data_types.specs.promise.Value.{byte_total}
 use Rattle.list_cols.specs.Listed.{listed}
 use Rattle.list_cols.proofs.totals.lists_bytes.Given as goal
 

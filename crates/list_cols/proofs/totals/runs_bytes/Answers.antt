@@ -4,7 +4,7 @@ use Rattle.std.specs.List.{flat_map}
 use Rattle.arr_import.specs.Cols.{window_of}
 use Rattle.arr_import.specs.Window.{item_at}
 use Rattle.column_fill.specs.declared.runs.Run.{Run}
-use Rattle.data_types.specs.Value.{Value, byte_total}
+use Rattle.data_types.specs.promise.Value.{Value, byte_total}
 use Rattle.list_cols.proofs.Sums.{total-next, total-prefix, total-times}
 use Rattle.list_cols.proofs.totals.runs_bytes.Goals as goal
 

@@ -2,7 +2,7 @@ use Rattle.std.proofs.Common.{◌≡◌, ◌<◌, ◌^◌, replicate, take}
 use Rattle.std.specs.List.{flat_map}
 use Rattle.arr_import.specs.Cols.{window_of}
 use Rattle.arr_import.specs.Window.{item_at}
-use Rattle.data_types.specs.Value.{byte_total}
+use Rattle.data_types.specs.promise.Value.{byte_total}
 use Rattle.list_cols.proofs.totals.runs_bytes.Given as goal
 
 -- the bytes of the runs so far

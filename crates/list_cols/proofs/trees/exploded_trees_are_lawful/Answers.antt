@@ -1,4 +1,4 @@
-use Rattle.data_types.specs.TypedView.{typed_of}
+use Rattle.data_types.specs.promise.TypedView.{typed_of}
 use Rattle.list_cols.proofs.Chunks.{chunk-is}
 use Rattle.list_cols.proofs.Kids.{level-live}
 use Rattle.list_cols.proofs.ListFields.{exploded-chunk, exploded-rows, exploded-typed, has-list}

@@ -1,9 +1,9 @@
 use Rattle.std.proofs.Common.{◌≡◌, ◌∙◌, ◌<◌, ◌+◌, suc, true, false, length, get_or, drop, ap, sym, arith, rules}
 use Rattle.std.proofs.Math.Seq.{drop-cons, drop-length}
-use Rattle.tree_model.specs.Tree.{Released}
+use Rattle.tree_model.specs.promise.TreeData.{Released}
 use Rattle.data_types.specs.TypedView.{kids_of}
 use Rattle.data_types.specs.declared.typed.Typed.{out-Typed}
-use Rattle.list_cols.specs.Faults.{explodes, first_wrong}
+use Rattle.list_cols.specs.promise.Faults.{explodes, first_wrong}
 use Rattle.list_cols.proofs.Kids.{kid-is, kids-are, many-kids, step-wrong}
 use Rattle.list_cols.proofs.wrong.wrong_to_explode.Goals as goal
 

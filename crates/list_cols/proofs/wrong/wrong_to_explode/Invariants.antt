@@ -1,6 +1,6 @@
 use Rattle.std.proofs.Common.{◌≡◌, drop}
 use Rattle.data_types.specs.TypedView.{kids_of}
-use Rattle.list_cols.specs.Faults.{explodes, first_wrong}
+use Rattle.list_cols.specs.promise.Faults.{explodes, first_wrong}
 use Rattle.list_cols.proofs.wrong.wrong_to_explode.Given as goal
 
 -- none so far is at fault

@@ -1,5 +1,5 @@
 use Rattle.std.proofs.Common.{[], ◌∷◌, pos, refl, arith}
-use Rattle.data_types.specs.Value.{Whole}
+use Rattle.data_types.specs.promise.Value.{Whole}
 use Rattle.number_stream.proofs.Fitting.{takes}
 use Rattle.number_stream.specs.Numbers.{numbers}
 use Rattle.number_stream.proofs.chunk.numbers.Goals as goal

@@ -1,5 +1,5 @@
 use Rattle.std.proofs.Common.{◌≡◌}
-use Rattle.tree_model.specs.Tree.{Released}
+use Rattle.tree_model.specs.promise.TreeData.{Released}
 use Rattle.stream_face.specs.Meaning.{meaning}
 use Rattle.number_stream.proofs.total.take.Given as goal
 

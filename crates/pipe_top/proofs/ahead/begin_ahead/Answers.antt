@@ -1,8 +1,8 @@
 use Rattle.std.proofs.Common.{◌≡◌, ◌∙◌, List, Ok, ap, arith, length, map, subst, sym}
 use Rattle.std.proofs.lemmas.List.{length-map}
-use Rattle.csv_model.specs.Header.{header_of}
-use Rattle.csv_model.specs.Reading.{Record, behind_header, records_of}
-use Rattle.stage_plan.specs.Entries.{entries_of}
+use Rattle.csv_model.specs.promise.Header.{header_of}
+use Rattle.csv_model.specs.promise.Reading.{Record, behind_header, records_of}
+use Rattle.stage_plan.specs.promise.Entries.{entries_of}
 use Rattle.csv_source.specs.AheadSources.{ahead_state}
 use Rattle.field_codec.specs.TextColumns.{AreAllowed, AreProper}
 use Rattle.data_types.specs.ColumnView.{column_of}

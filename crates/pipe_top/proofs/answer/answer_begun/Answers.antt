@@ -1,6 +1,6 @@
 use Rattle.std.proofs.Common.{◌≡◌, Some, IfErr, arith, subst}
 use Rattle.run_model.specs.Outcomes.{request_of}
-use Rattle.stage_chain.specs.Chains.{ShowsFirst, ShowsLinks}
+use Rattle.stage_chain.specs.promise.Chains.{ShowsFirst, ShowsLinks}
 use Rattle.csv_write.specs.Faults.{IfRow}
 use Rattle.pipe_top.proofs.Begun.{begun-alone, begun-counts, begun-flat, begun-kept, begun-links, begun-live, begun-lawful, begun-plan, begun-text, begun-told, begun-fresh, told-behind}
 use Rattle.pipe_top.proofs.answer.answer_begun.Goals as goal

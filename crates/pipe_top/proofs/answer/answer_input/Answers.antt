@@ -1,4 +1,4 @@
-use Rattle.csv_model.specs.Reading.{records_of}
+use Rattle.csv_model.specs.promise.Reading.{records_of}
 use Rattle.std.proofs.Common.{◌∙◌, sym}
 use Rattle.stage_chain.proofs.Chaining.{shows-nothing, whatever}
 use Rattle.pipe_top.proofs.Carried.{at-err, the-error, untrue}

@@ -1,5 +1,5 @@
 use Rattle.std.proofs.Common.{ap, arith}
-use Rattle.tree_model.specs.Tree.{maybe_tree}
+use Rattle.tree_model.specs.promise.TreeData.{maybe_tree}
 use Rattle.raw_array.specs.Members.{cost_of_maybe}
 use Rattle.raw_array.proofs.Buffers.{holds_of-count}
 use Rattle.raw_array.proofs.built.end_parts.Goals as goal

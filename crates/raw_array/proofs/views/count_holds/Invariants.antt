@@ -1,5 +1,5 @@
 use Rattle.std.proofs.Common.{◌≡◌, ◌≤◌, take}
-use Rattle.raw_array.specs.Members.{holds_of}
+use Rattle.raw_array.specs.promise.Members.{holds_of}
 use Rattle.raw_array.specs.View.{buffers_of}
 use Rattle.raw_array.proofs.views.count_holds.Given as goal
 

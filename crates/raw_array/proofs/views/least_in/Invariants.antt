@@ -1,5 +1,6 @@
 use Rattle.std.proofs.Common.{◌≡◌, ◌≤◌, take}
-use Rattle.raw_array.specs.Members.{least_of, whole}
+use Rattle.raw_array.specs.promise.Members.{whole}
+use Rattle.raw_array.specs.Members.{least_of}
 use Rattle.raw_array.specs.View.{buffers_of}
 use Rattle.raw_array.proofs.views.least_in.Given as goal
 

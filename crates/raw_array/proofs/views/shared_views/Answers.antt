@@ -1,6 +1,7 @@
 use Rattle.raw_array.proofs.Shares.{shares}
 use Rattle.std.proofs.Common.{rules, ◌≡◌, ◌+◌, ◌<◌, ◌∷◌, [], length, map, take, ap, ◌∙◌, arith}
-use Rattle.raw_array.specs.Members.{holds_of, least_of, shared_buffer, lowered_buffer}
+use Rattle.raw_array.specs.promise.Members.{holds_of}
+use Rattle.raw_array.specs.Members.{least_of, shared_buffer, lowered_buffer}
 use Rattle.raw_array.specs.View.{buffers_of}
 use Rattle.std.proofs.Math.Seq.{take-length}
 use Rattle.tree_model.proofs.SoFar.{so_far-end}

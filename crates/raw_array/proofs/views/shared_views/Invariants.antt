@@ -1,6 +1,7 @@
 use Rattle.std.proofs.Common.{◌≡◌, ◌+◌, ◌≤◌, map, take, vec_len, vec_capacity}
 use Rattle.tree_model.proofs.SoFar.{so_far}
-use Rattle.raw_array.specs.Members.{holds_of, shared_buffer, lowered_buffer}
+use Rattle.raw_array.specs.promise.Members.{holds_of}
+use Rattle.raw_array.specs.Members.{shared_buffer, lowered_buffer}
 use Rattle.raw_array.specs.View.{buffers_of}
 use Rattle.raw_array.proofs.views.shared_views.Given as goal
 

@@ -1,5 +1,5 @@
 use Rattle.std.proofs.Common.{◌≡◌, ◌+◌, vec_len}
-use Rattle.tree_model.specs.Tree.{trees}
+use Rattle.tree_model.specs.promise.TreeData.{trees}
 use Rattle.raw_schema.specs.Members.{nodes_of_all}
 use Rattle.raw_schema.proofs.release.release_all.Given as goal
 

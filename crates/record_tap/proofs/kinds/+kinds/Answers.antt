@@ -1,7 +1,7 @@
 use Rattle.std.proofs.Common.{rules, ◌<◌, length, ap, sym, subst, arith}
 use Rattle.tree_model.specs.Tree.{Depth}
 use Rattle.data_types.specs.KindTrees.{NodesOk}
-use Rattle.data_types.specs.TypedView.{typed_of}
+use Rattle.data_types.specs.promise.TypedView.{typed_of}
 use Rattle.data_types.specs.declared.typed.Typed.{Typed}
 use Rattle.record_tap.proofs.TypedKids.{depth-kid, kid-ok}
 use Rattle.record_tap.proofs.kinds.+kinds.Goals as goal

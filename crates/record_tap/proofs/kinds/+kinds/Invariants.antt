@@ -1,6 +1,7 @@
 use Rattle.std.proofs.Common.{◌≡◌, ◌+◌, ◌*◌, map, take}
-use Rattle.tree_model.specs.Tree.{Depth, depth_of_all, trees}
-use Rattle.data_types.specs.TypedView.{typed_of}
+use Rattle.tree_model.specs.promise.TreeData.{trees}
+use Rattle.tree_model.specs.Tree.{Depth, depth_of_all}
+use Rattle.data_types.specs.promise.TypedView.{typed_of}
 use Rattle.record_tap.proofs.kinds.+kinds.Given as goal
 
 abbrev pub decreases-kept_kinds : goal.decreases-kept_kinds

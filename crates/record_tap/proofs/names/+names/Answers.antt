@@ -1,7 +1,9 @@
 use Rattle.std.proofs.Common.{rules, ◌≡◌, ◌∙◌, ◌<◌, ◌++◌, [], ◌∷◌, length, take, ap, sym, subst, append_assoc, OnOk}
-use Rattle.tree_model.specs.Tree.{Depth, IsLive, trees, children_of}
-use Rattle.raw_schema.specs.Members.{members_of}
-use Rattle.stream_face.specs.Shown.{names_of, names_of_all}
+use Rattle.tree_model.specs.promise.TreeParts.{IsLive, children_of}
+use Rattle.tree_model.specs.promise.TreeData.{trees}
+use Rattle.tree_model.specs.Tree.{Depth}
+use Rattle.raw_schema.specs.promise.Members.{members_of}
+use Rattle.stream_face.specs.promise.Shown.{names_of, names_of_all}
 use Rattle.record_tap.proofs.NodeNames.{depth-child, names-alone, names-below, names-more}
 use Rattle.record_tap.proofs.names.+names.Goals as goal
 

@@ -1,6 +1,8 @@
 use Rattle.std.proofs.Common.{◌≡◌, ◌+◌, ◌*◌, ◌++◌, take}
-use Rattle.tree_model.specs.Tree.{Depth, trees, children_of}
-use Rattle.stream_face.specs.Shown.{names_of_all}
+use Rattle.tree_model.specs.promise.TreeData.{trees}
+use Rattle.tree_model.specs.promise.TreeParts.{children_of}
+use Rattle.tree_model.specs.Tree.{Depth}
+use Rattle.stream_face.specs.promise.Shown.{names_of_all}
 use Rattle.record_tap.proofs.names.+names.Given as goal
 
 abbrev pub decreases-add_names : goal.decreases-add_names

@@ -1,6 +1,6 @@
 use Rattle.std.proofs.Common.{◌∙◌, ◌++◌, [], ◌∷◌, map, ap, sym}
 use Rattle.std.proofs.lemmas.List.{map-append}
-use Rattle.layout_rules.specs.Values.{each, row_items}
+use Rattle.layout_rules.specs.promise.Values.{each, row_items}
 use Rattle.arr_import.specs.Cols.{window_of}
 use Rattle.record_tap.specs.OwnedValues.{row_of}
 use Rattle.record_tap.proofs.Kept.{each-more}

@@ -1,5 +1,5 @@
 use Rattle.std.proofs.Common.{◌≡◌, map}
-use Rattle.layout_rules.specs.Values.{each, row_items}
+use Rattle.layout_rules.specs.promise.Values.{each, row_items}
 use Rattle.arr_import.specs.Cols.{window_of}
 use Rattle.record_tap.specs.OwnedValues.{row_of}
 use Rattle.record_tap.proofs.rows.rows_in.Given as goal

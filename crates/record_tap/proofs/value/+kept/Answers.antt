@@ -1,7 +1,7 @@
 use Rattle.std.proofs.Common.{rules, ◌∙◌, ◌+◌, ◌<◌, ◌++◌, [], ◌∷◌, length, map, ap, sym, arith}
 use Rattle.std.proofs.lemmas.List.{map-append}
-use Rattle.data_types.specs.Value.{Null}
-use Rattle.layout_rules.specs.Values.{each, row_items, value_at}
+use Rattle.data_types.specs.promise.Value.{Null}
+use Rattle.layout_rules.specs.promise.Values.{each, row_items, value_at}
 use Rattle.arr_import.specs.Cols.{window_of}
 use Rattle.arr_import.specs.Window.{Window}
 use Rattle.record_tap.specs.OwnedValues.{value_of}

@@ -1,6 +1,6 @@
 use Rattle.std.proofs.Common.{◌≡◌, ◌+◌, ◌*◌, map, take}
-use Rattle.data_types.specs.Value.{values}
-use Rattle.layout_rules.specs.Values.{each, row_items, value_at}
+use Rattle.data_types.specs.promise.Value.{values}
+use Rattle.layout_rules.specs.promise.Values.{each, row_items, value_at}
 use Rattle.arr_import.specs.Cols.{window_of}
 use Rattle.arr_import.specs.Window.{item_at, items_of}
 use Rattle.record_tap.specs.OwnedValues.{value_of}

@@ -1,8 +1,9 @@
 use Rattle.std.proofs.Common.{rules, ◌≡◌, ◌∙◌, ◌<◌, ◌≤◌, sym, length, get_or, map, Some, None}
-use Rattle.tree_model.specs.Tree.{children_of, Released}
-use Rattle.data_types.specs.TypedView.{typed_of}
+use Rattle.tree_model.specs.promise.TreeParts.{children_of}
+use Rattle.tree_model.specs.promise.TreeData.{Released}
+use Rattle.data_types.specs.promise.TypedView.{typed_of}
 use Rattle.layout_rules.specs.Found.{fault_of}
-use Rattle.layout_rules.specs.Walk.{first_fault}
+use Rattle.layout_rules.specs.promise.Walk.{first_fault}
 use Rattle.root_check.proofs.ChildFaults.{valid_kid, found_here, none_here, not_lawful, all_lawful}
 use Rattle.root_check.proofs.children.check_children.Goals as goal
 

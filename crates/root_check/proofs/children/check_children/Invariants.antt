@@ -1,7 +1,7 @@
 use Rattle.std.proofs.Common.{◌≡◌, map, drop}
-use Rattle.tree_model.specs.Tree.{children_of}
-use Rattle.data_types.specs.TypedView.{typed_of}
-use Rattle.root_check.specs.Children.{children_fault}
+use Rattle.tree_model.specs.promise.TreeParts.{children_of}
+use Rattle.data_types.specs.promise.TypedView.{typed_of}
+use Rattle.root_check.specs.promise.Children.{children_fault}
 use Rattle.root_check.proofs.children.check_children.Given as goal
 
 -- what is left has the same first fault

@@ -1,9 +1,9 @@
 use Rattle.std.proofs.Common.{rules}
 use Rattle.std.specs.Prelude.{IfOk, IfErr, map}
 use Rattle.std.specs.List.{AllZip}
-use Rattle.tree_model.specs.Tree.{children_of}
-use Rattle.data_types.specs.TypedView.{typed_of}
-use Rattle.schema_check.specs.Schemas.{TypedOf}
+use Rattle.tree_model.specs.promise.TreeParts.{children_of}
+use Rattle.data_types.specs.promise.TypedView.{typed_of}
+use Rattle.schema_check.specs.promise.Schemas.{TypedOf}
 use Rattle.root_check.specs.KidAnswers.{IsFaultOfKids}
 use Rattle.root_check.proofs.RootAnswers.{gives_kids}
 use Rattle.root_check.proofs.kids.child_types.Goals as goal

@@ -1,8 +1,9 @@
 use Rattle.std.proofs.Common.{rules, ◌≡◌, ◌<◌, ◌++◌, ◌∷◌, [], length, get_or}
-use Rattle.tree_model.specs.Tree.{children_of, Released}
-use Rattle.data_types.specs.TypedView.{typed_of}
+use Rattle.tree_model.specs.promise.TreeParts.{children_of}
+use Rattle.tree_model.specs.promise.TreeData.{Released}
+use Rattle.data_types.specs.promise.TypedView.{typed_of}
 use Rattle.data_types.specs.KindTrees.{TypedOk}
-use Rattle.schema_check.specs.Schemas.{TypedOf}
+use Rattle.schema_check.specs.promise.Schemas.{TypedOf}
 use Rattle.root_check.proofs.RootAnswers.{types_more, valid_more}
 use Rattle.root_check.proofs.kids.types_of_children.Goals as goal
 

@@ -1,9 +1,9 @@
 use Rattle.std.proofs.Common.{map, take, All}
 use Rattle.std.specs.List.{AllZip}
-use Rattle.tree_model.specs.Tree.{children_of}
+use Rattle.tree_model.specs.promise.TreeParts.{children_of}
 use Rattle.data_types.specs.KindTrees.{TypedOk}
-use Rattle.data_types.specs.TypedView.{typed_of}
-use Rattle.schema_check.specs.Schemas.{TypedOf}
+use Rattle.data_types.specs.promise.TypedView.{typed_of}
+use Rattle.schema_check.specs.promise.Schemas.{TypedOf}
 use Rattle.root_check.proofs.kids.types_of_children.Given as goal
 
 -- the children so far have these kinds

@@ -1,13 +1,14 @@
 use Rattle.std.proofs.Common.{◌≡◌, ◌∙◌, ◌+◌, ◌<◌, ◌≤◌, All, [], ◌∷◌, List, ℕ, Bool, true, false, length, map, replicate, refl, sym, ap, subst, arith}
 use Rattle.std.proofs.lemmas.Bool.Decides.{nat_tests}
 use Rattle.std.specs.Prelude.{IfErr, if◌then◌else◌, ◌==◌}
-use Rattle.data_types.specs.Value.{Value, Bytes}
-use Rattle.data_types.specs.TypedView.{typed_of}
-use Rattle.data_types.specs.KindTrees.{KindTree}
-use Rattle.raw_array.specs.Members.{ArrayTree}
-use Rattle.layout_rules.specs.Values.{each, tree_items, value_at}
+use Rattle.data_types.specs.promise.Value.{Value, Bytes}
+use Rattle.data_types.specs.promise.TypedView.{typed_of}
+use Rattle.data_types.specs.promise.KindTrees.{KindTree}
+use Rattle.raw_array.specs.promise.Members.{ArrayTree}
+use Rattle.layout_rules.specs.promise.Values.{each, tree_items, value_at}
 use Rattle.array_laws.specs.Items.{AreApart}
-use Rattle.data_types.specs.Groups.{distinct, firsts_of}
+use Rattle.data_types.specs.promise.Groups.{distinct}
+use Rattle.data_types.specs.Groups.{firsts_of}
 use Rattle.row_groups.specs.ItemKeys.{item_of, type_of}
 use Rattle.row_groups.specs.Items.{IsRefusedFor, items_from, most_groups}
 use Rattle.row_groups.specs.declared.fault.GroupFault.TheVariants.{NoMemory}

@@ -1,10 +1,10 @@
 use Rattle.std.proofs.Common.{◌≡◌, ◌∙◌, ◌+◌, ◌-◌, ◌≤◌, ◌++◌, ◌∷◌, [], ℕ, Bool, length, sym, ap, subst, arith, length-append}
 use Rattle.std.specs.Prelude.{if◌then◌else◌}
 use Rattle.std.proofs.lemmas.Result.{err_from_is_err_and}
-use Rattle.data_types.specs.Value.{Value}
-use Rattle.layout_rules.specs.Values.{each}
+use Rattle.data_types.specs.promise.Value.{Value}
+use Rattle.layout_rules.specs.promise.Values.{each}
 use Rattle.arr_import.specs.Lent.{lent_bytes}
-use Rattle.data_types.specs.Groups.{distinct}
+use Rattle.data_types.specs.promise.Groups.{distinct}
 use Rattle.row_groups.specs.ItemKeys.{item_of, stored_as}
 use Rattle.row_groups.specs.Walk.{IsWalked}
 use Rattle.row_groups.proofs.Alike.{refused-more, values-count, values-upto}

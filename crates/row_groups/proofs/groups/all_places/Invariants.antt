@@ -1,5 +1,5 @@
 use Rattle.std.proofs.Common.{◌≡◌, ◌≤◌, vec_len, vec_capacity}
-use Rattle.layout_rules.specs.Values.{each}
+use Rattle.layout_rules.specs.promise.Values.{each}
 use Rattle.row_groups.proofs.groups.all_places.Given as goal
 
 -- the places before this one, in the room that was taken for all

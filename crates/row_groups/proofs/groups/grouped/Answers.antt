@@ -1,14 +1,15 @@
 use Rattle.std.proofs.Common.{◌≡◌, ◌∙◌, ◌+◌, ◌<◌, ◌∷◌, [], All, List, ℕ, length, map, refl, sym, ap, subst, arith}
 use Rattle.std.specs.List.{concat}
 use Rattle.std.specs.Prelude.{if◌then◌else◌, ◌==◌, IfOk}
-use Rattle.data_types.specs.Value.{Value, Bytes}
-use Rattle.data_types.specs.KindTrees.{KindTree}
-use Rattle.raw_array.specs.Members.{ArrayTree}
-use Rattle.data_types.specs.TypedView.{typed_of}
-use Rattle.layout_rules.specs.Values.{each, tree_items, value_at}
+use Rattle.data_types.specs.promise.Value.{Value, Bytes}
+use Rattle.data_types.specs.promise.KindTrees.{KindTree}
+use Rattle.raw_array.specs.promise.Members.{ArrayTree}
+use Rattle.data_types.specs.promise.TypedView.{typed_of}
+use Rattle.layout_rules.specs.promise.Values.{each, tree_items, value_at}
 use Rattle.array_laws.specs.Items.{AreApart}
 use Rattle.row_groups.specs.Chains.{places_by_number}
-use Rattle.data_types.specs.Groups.{distinct, firsts_of, offsets_of, order_of, sums_from}
+use Rattle.data_types.specs.promise.Groups.{distinct, sums_from}
+use Rattle.data_types.specs.Groups.{firsts_of, offsets_of, order_of}
 use Rattle.row_groups.specs.ItemKeys.{array_of, item_of, type_of}
 use Rattle.row_groups.specs.Items.{items_from}
 use Rattle.row_groups.specs.Walk.{IsGrouped}

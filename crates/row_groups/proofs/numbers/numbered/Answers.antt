@@ -1,5 +1,5 @@
 use Rattle.std.proofs.Common.{◌≡◌, ◌+◌, ◌++◌, ◌∷◌, [], ℕ, sym, subst, arith}
-use Rattle.data_types.specs.Value.{Value}
+use Rattle.data_types.specs.promise.Value.{Value}
 use Rattle.arr_import.specs.Lent.{lent_bytes}
 use Rattle.row_groups.specs.ItemKeys.{HasKey, item_of, stored_as}
 use Rattle.row_groups.specs.Walk.{IsGrouped, IsWalked}

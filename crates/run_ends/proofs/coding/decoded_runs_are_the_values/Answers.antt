@@ -1,9 +1,10 @@
 use Rattle.std.proofs.Common.{◌≡◌, ◌∙◌, ◌^◌, ◌<◌, List, None, length, ap}
-use Rattle.arr_export.specs.ArrayTrees.{column_tree, flat_type}
+use Rattle.arr_export.specs.promise.ArrayTrees.{column_tree}
+use Rattle.arr_export.specs.ArrayTrees.{flat_type}
 use Rattle.col_build.specs.Encoding.{Fits}
-use Rattle.data_types.specs.Value.{Value}
+use Rattle.data_types.specs.promise.Value.{Value}
 use Rattle.data_types.specs.declared.kind.DataType.{DataType}
-use Rattle.layout_rules.specs.Values.{values_of}
+use Rattle.layout_rules.specs.promise.Values.{values_of}
 use Rattle.run_ends.specs.CodeFaults.{decode_fault}
 use Rattle.run_ends.specs.RunCoding.{decoded_tree, runs_tree, runs_type}
 use Rattle.run_ends.proofs.FlatKinds.{fits-free}

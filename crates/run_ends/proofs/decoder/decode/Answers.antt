@@ -1,11 +1,11 @@
 use Rattle.std.proofs.Common.{◌≡◌, ◌∙◌, None, ap, sym}
-use Rattle.arr_export.specs.ArrayTrees.{column_tree}
+use Rattle.arr_export.specs.promise.ArrayTrees.{column_tree}
 use Rattle.data_types.specs.declared.kind.DataType.{DataType}
-use Rattle.data_types.specs.KindTrees.{KindTree}
-use Rattle.data_types.specs.TypedView.{typed_of}
-use Rattle.layout_rules.specs.Values.{values_of}
+use Rattle.data_types.specs.promise.KindTrees.{KindTree}
+use Rattle.data_types.specs.promise.TypedView.{typed_of}
+use Rattle.layout_rules.specs.promise.Values.{values_of}
 use Rattle.run_ends.specs.RunAnswers.{runs_of}
-use Rattle.run_ends.specs.Runs.{run_values}
+use Rattle.run_ends.specs.promise.Runs.{run_values}
 use Rattle.run_ends.proofs.decoder.decode.Goals as goal
 
 pub returns-in-Ok-clause-items : goal.returns-in-Ok-clause-items

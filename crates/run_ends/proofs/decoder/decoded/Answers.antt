@@ -1,6 +1,6 @@
 use Rattle.std.proofs.Common.{◌≡◌}
 use Rattle.run_ends.specs.RunAnswers.{runs_of}
-use Rattle.run_ends.specs.Runs.{run_values}
+use Rattle.run_ends.specs.promise.Runs.{run_values}
 use Rattle.run_ends.proofs.Units.{made-units}
 use Rattle.run_ends.proofs.decoder.decoded.Goals as goal
 

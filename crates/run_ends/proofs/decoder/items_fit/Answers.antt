@@ -1,9 +1,9 @@
 use Rattle.std.proofs.Common.{All, subst, sym}
-use Rattle.data_types.specs.TypedView.{typed_of}
-use Rattle.raw_array.specs.Members.{ArrayTree}
+use Rattle.data_types.specs.promise.TypedView.{typed_of}
+use Rattle.raw_array.specs.promise.Members.{ArrayTree}
 use Rattle.array_laws.specs.Items.{IsItemOf}
 use Rattle.run_ends.specs.RunAnswers.{runs_of}
-use Rattle.run_ends.specs.Runs.{run_values}
+use Rattle.run_ends.specs.promise.Runs.{run_values}
 use Rattle.run_ends.proofs.ItemsWalked.{are-items, few-items}
 use Rattle.run_ends.proofs.decoder.items_fit.Goals as goal
 

@@ -2,11 +2,11 @@ use Rattle.std.proofs.Common.{◌≡◌, ◌≢◌, ℕ, ℤ, List, subst, w64}
 use Rattle.std.proofs.lemmas.Int.{to_z_pos}
 use Rattle.arr_import.specs.Cols.{window_of}
 use Rattle.arr_import.specs.Window.{item_at}
-use Rattle.data_types.specs.Value.{Bytes}
-use Rattle.layout_rules.specs.Layout.{natural}
-use Rattle.data_types.specs.TypedView.{typed_of}
+use Rattle.data_types.specs.promise.Value.{Bytes}
+use Rattle.layout_rules.specs.promise.Layout.{natural}
+use Rattle.data_types.specs.promise.TypedView.{typed_of}
 use Rattle.run_ends.specs.RunCols.{array_in}
-use Rattle.tree_model.specs.Tree.{child_at}
+use Rattle.tree_model.specs.promise.TreeParts.{child_at}
 use Rattle.run_ends.proofs.ItemsWalked.{no-bytes-at}
 use Rattle.run_ends.proofs.decoder.value_bytes.Goals as goal
 

@@ -1,5 +1,5 @@
 use Rattle.std.proofs.Common.{ap, length, arith}
-use Rattle.data_types.specs.TypedView.{typed_of}
+use Rattle.data_types.specs.promise.TypedView.{typed_of}
 use Rattle.run_ends.proofs.ValueRuns.{count-is}
 use Rattle.run_ends.proofs.encoder.coded.Goals as goal
 

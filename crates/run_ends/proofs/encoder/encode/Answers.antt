@@ -1,11 +1,11 @@
 use Rattle.std.proofs.Common.{◌∙◌, ap, sym, subst}
 use Rattle.data_types.specs.declared.kind.DataType.{DataType}
-use Rattle.raw_array.specs.Members.{ArrayTree}
+use Rattle.raw_array.specs.promise.Members.{ArrayTree}
 use Rattle.run_ends.specs.RunCoding.{runs_type}
-use Rattle.raw_schema.specs.Members.{SchemaTree}
+use Rattle.raw_schema.specs.promise.Members.{SchemaTree}
 use Rattle.run_ends.specs.RunRules.{RunsOk}
-use Rattle.run_ends.specs.RunSchemas.{RunsOf}
-use Rattle.run_ends.specs.Runs.{run_values}
+use Rattle.run_ends.specs.promise.RunSchemas.{RunsOf}
+use Rattle.run_ends.specs.promise.Runs.{run_values}
 use Rattle.run_ends.proofs.encoder.encode.Goals as goal
 
 pub returns-in-Ok-clause-reads : goal.returns-in-Ok-clause-reads

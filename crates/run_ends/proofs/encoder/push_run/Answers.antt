@@ -4,7 +4,7 @@ use Rattle.std.proofs.lemmas.Int.{ints}
 use Rattle.arr_import.specs.Cols.{window_of}
 use Rattle.col_build.specs.Holding as held
 use Rattle.column_fill.specs.Takes.{Takes}
-use Rattle.data_types.specs.Value.{Value, Whole}
+use Rattle.data_types.specs.promise.Value.{Value, Whole}
 use Rattle.run_ends.specs.ColumnRuns.{values_in}
 use Rattle.run_ends.proofs.Making.{end-taken, ends-whole, item-there, one-added, value-taken}
 use Rattle.run_ends.proofs.encoder.push_run.Goals as goal

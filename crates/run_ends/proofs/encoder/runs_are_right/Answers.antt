@@ -1,7 +1,7 @@
 use Rattle.std.proofs.Common.{◌<◌, ◌^◌, length, arith}
 use Rattle.col_build.specs.Encoding.{Fits}
-use Rattle.data_types.specs.TypedView.{typed_of}
-use Rattle.layout_rules.specs.Values.{values_of}
+use Rattle.data_types.specs.promise.TypedView.{typed_of}
+use Rattle.layout_rules.specs.promise.Values.{values_of}
 use Rattle.run_ends.proofs.ValueRuns.{count-is}
 use Rattle.run_ends.proofs.encoder.runs_are_right.Goals as goal
 

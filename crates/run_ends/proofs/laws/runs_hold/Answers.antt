@@ -1,5 +1,5 @@
 use Rattle.run_ends.specs.RunAnswers.{runs_of}
-use Rattle.run_ends.specs.RunRules.{runs_fault}
+use Rattle.run_ends.specs.promise.RunRules.{runs_fault}
 use Rattle.run_ends.proofs.Holding.{runs_hold, none_of}
 use Rattle.run_ends.proofs.laws.runs_hold.Goals as goal
 

@@ -1,8 +1,8 @@
 use Rattle.std.proofs.Common.{rules, map, arith}
 use Rattle.std.proofs.lemmas.List.{length-map}
-use Rattle.tree_model.specs.Tree.{children_of}
-use Rattle.data_types.specs.TypedView.{typed_of}
-use Rattle.run_ends.specs.Runs.{IsEnds}
+use Rattle.tree_model.specs.promise.TreeParts.{children_of}
+use Rattle.data_types.specs.promise.TypedView.{typed_of}
+use Rattle.run_ends.specs.promise.Runs.{IsEnds}
 use Rattle.run_ends.proofs.OneRuns.{two_zipped, are_over, are_ok}
 use Rattle.run_ends.proofs.read.kinds_below.Goals as goal
 

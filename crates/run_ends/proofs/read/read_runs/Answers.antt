@@ -1,6 +1,6 @@
 use Rattle.std.proofs.Common.{rules}
 use Rattle.std.specs.Prelude.{IfOk, IfErr}
-use Rattle.run_ends.specs.RunSchemas.{RunsOf}
+use Rattle.run_ends.specs.promise.RunSchemas.{RunsOf}
 use Rattle.run_ends.specs.RunAnswers.{runs_of, IsRunsFault}
 use Rattle.run_ends.proofs.OneRuns.{gives_runs}
 use Rattle.run_ends.proofs.read.read_runs.Goals as goal

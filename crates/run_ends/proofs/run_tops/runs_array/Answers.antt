@@ -1,5 +1,5 @@
 use Rattle.std.proofs.Common.{◌≡◌, ◌+◌, ◌≤◌, ℕ, List, MatchResult, map, subst, arith}
-use Rattle.raw_array.specs.Members.{Cost}
+use Rattle.raw_array.specs.promise.Members.{Cost}
 use Rattle.run_ends.specs.RunCoding.{end_kind, end_of, value_of}
 use Rattle.run_ends.proofs.Units.{cost-few, depth-few, top-blocks, top-tree, units-of}
 use Rattle.run_ends.proofs.run_tops.runs_array.Goals as goal

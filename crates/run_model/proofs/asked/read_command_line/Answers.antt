@@ -1,6 +1,6 @@
 use Rattle.std.proofs.Common.{◌≡◌, ◌⊎◌, ℕ, List, Result, Ok, Err, IfOk, subst, sym, inl, inr}
-use Rattle.run_model.specs.Words.{Options, words_of}
-use Rattle.run_model.specs.Answer.{Asks, OptionsAsk, Task, TaskIs, meant_by}
+use Rattle.run_model.specs.promise.Words.{Options, words_of}
+use Rattle.run_model.specs.promise.Answer.{Asks, OptionsAsk, Task, TaskIs, meant_by}
 use Rattle.run_model.specs.Outcomes.{IfTable, asked_of}
 use Rattle.run_model.specs.declared.asked.Task.{Task as AsksTask}
 use Rattle.run_model.specs.declared.fault.RunFault.{RunFault}

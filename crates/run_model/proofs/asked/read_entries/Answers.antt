@@ -3,8 +3,8 @@ use Rattle.stage_plan.specs.declared.fault.TypesFault.{TypesFault}
 use Rattle.stage_plan.specs.declared.types.TypeEntry.{TypeEntry}
 use Rattle.stage_plan.specs.declared.fault.TypesFault.TheVariants as types
 use Rattle.std.proofs.lemmas.Bool.{false≢true}
-use Rattle.stage_plan.specs.Types.{Reads, TypesFaultIs}
-use Rattle.run_model.specs.Answer.{EntriesAsk, EntriesRead}
+use Rattle.stage_plan.specs.promise.Types.{Reads, TypesFaultIs}
+use Rattle.run_model.specs.promise.Answer.{EntriesAsk, EntriesRead}
 use Rattle.run_model.proofs.asked.read_entries.Goals as goal
 
 abbrev is-memory : TypesFault → Bool

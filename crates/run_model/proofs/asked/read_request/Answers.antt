@@ -1,7 +1,8 @@
 use Rattle.std.proofs.Common.{◌≡◌, ◌⊎◌, ◌∙◌, ℕ, List, Result, Ok, Err, Bor, ap, sym, subst, inl, inr, map}
 use Rattle.stage_model.specs.declared.stage.StageText.{StageText}
-use Rattle.run_model.specs.Words.{Options, options_of}
-use Rattle.run_model.specs.Answer.{Request, RequestIs, StagesAsk, stages_from}
+use Rattle.run_model.specs.promise.Words.{Options}
+use Rattle.run_model.specs.Words.{options_of}
+use Rattle.run_model.specs.promise.Answer.{Request, RequestIs, StagesAsk, stages_from}
 use Rattle.run_model.specs.Outcomes.{request_asked}
 use Rattle.run_model.specs.declared.request.Request.{Request as AsksFor}
 use Rattle.run_model.specs.declared.fault.RunFault.{RunFault}

@@ -1,5 +1,5 @@
 use Rattle.std.proofs.Common.{rules, ◌≡◌, ◌⊎◌, ◌+◌, Err, arith, sym, subst}
-use Rattle.run_model.specs.Answer.{stages_from}
+use Rattle.run_model.specs.promise.Answer.{stages_from}
 use Rattle.run_model.specs.declared.fault.RunFault.TheVariants as run
 use Rattle.run_model.proofs.CommandLineStages.{ReadTo, read-fault, read-more, spelled}
 use Rattle.run_model.proofs.asked.read_stages.Goals as goal

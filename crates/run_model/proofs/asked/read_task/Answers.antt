@@ -1,6 +1,6 @@
 use Rattle.std.proofs.Common.{◌≡◌, ◌∙◌, IfOk, ap, subst, sym}
 use Rattle.run_model.specs.Words.{options_of}
-use Rattle.run_model.specs.Answer.{meant_by}
+use Rattle.run_model.specs.promise.Answer.{meant_by}
 use Rattle.run_model.specs.Outcomes.{IfTable, asked_of}
 use Rattle.run_model.proofs.Meant.{meant-only}
 use Rattle.run_model.proofs.asked.read_task.Goals as goal

@@ -1,5 +1,6 @@
 use Rattle.std.proofs.Common.{subst, sym}
-use Rattle.run_model.specs.Diagnostics.{Says, audit_if}
+use Rattle.run_model.specs.promise.Diagnostics.{audit_if}
+use Rattle.run_model.specs.Diagnostics.{Says}
 use Rattle.run_model.proofs.diagnostics.tell_audit_if.Goals as goal
 
 pub returns-then-wanted : goal.returns-then-wanted

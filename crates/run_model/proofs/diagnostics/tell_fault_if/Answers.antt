@@ -1,5 +1,6 @@
 use Rattle.std.proofs.Common.{subst, sym}
-use Rattle.run_model.specs.Diagnostics.{Says, fault_line}
+use Rattle.run_model.specs.promise.Diagnostics.{fault_line}
+use Rattle.run_model.specs.Diagnostics.{Says}
 use Rattle.run_model.proofs.diagnostics.tell_fault_if.Goals as goal
 
 pub returns-in-Some : goal.returns-in-Some

@@ -1,8 +1,8 @@
 use Rattle.std.proofs.Common.{decimal}
 use Rattle.std.specs.Fmt.{signed_decimal}
-use Rattle.data_types.specs.WayTexts.{way_text}
-use Rattle.layout_rules.specs.FaultTexts.{rule_text}
-use Rattle.data_types.specs.Ways.{steps_of}
+use Rattle.data_types.specs.promise.WayTexts.{way_text}
+use Rattle.layout_rules.specs.promise.FaultTexts.{rule_text}
+use Rattle.data_types.specs.promise.Ways.{steps_of}
 use Rattle.run_model.proofs.Pieces.{says-both, says-in-part}
 use Rattle.run_model.proofs.TreeLines.{layout-line}
 use Rattle.run_model.proofs.tree_line.tell_layout.Goals as goal

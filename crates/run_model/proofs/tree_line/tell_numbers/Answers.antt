@@ -1,6 +1,6 @@
 use Rattle.std.proofs.Common.{rules, ◌≡◌, subst, decimal}
 use Rattle.std.specs.Fmt.{signed_decimal}
-use Rattle.layout_rules.specs.FaultTexts.{rule_text}
+use Rattle.layout_rules.specs.promise.FaultTexts.{rule_text}
 use Rattle.run_model.specs.Diagnostics.{Says}
 use Rattle.run_model.proofs.TreeLines.{number-pieces}
 use Rattle.run_model.proofs.tree_line.tell_numbers.Goals as goal

@@ -1,6 +1,6 @@
-use Rattle.schema_check.specs.FaultTexts.{schema_rule_text}
-use Rattle.data_types.specs.WayTexts.{way_text}
-use Rattle.data_types.specs.Ways.{steps_of}
+use Rattle.schema_check.specs.promise.FaultTexts.{schema_rule_text}
+use Rattle.data_types.specs.promise.WayTexts.{way_text}
+use Rattle.data_types.specs.promise.Ways.{steps_of}
 use Rattle.run_model.proofs.Pieces.{says-both, says-in-part}
 use Rattle.run_model.proofs.TreeLines.{schema-line}
 use Rattle.std.proofs.Common.{refl}

@@ -1,5 +1,5 @@
 use Rattle.std.proofs.Common.{ap, codes, refl, ◌++◌}
-use Rattle.data_types.specs.WayTexts.{way_text}
+use Rattle.data_types.specs.promise.WayTexts.{way_text}
 use Rattle.run_model.proofs.Pieces.{says-both, says-in-part}
 use Rattle.run_model.proofs.tree_line.tell_way.Goals as goal
 

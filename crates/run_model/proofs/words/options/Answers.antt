@@ -1,7 +1,7 @@
 use Rattle.std.proofs.Common.{codes, refl}
 use Rattle.clap.specs.Words.{found_of, rows_of}
-use Rattle.fan_out.specs.Counts.{most_workers}
-use Rattle.run_model.specs.Words.{default_batch, default_workers, most_ahead, most_batch, most_rows}
+use Rattle.fan_out.specs.promise.Counts.{most_workers}
+use Rattle.run_model.specs.promise.Words.{default_batch, default_workers, most_ahead, most_batch, most_rows}
 use Rattle.run_model.proofs.Rows.{choice_is, given_text, no_ahead, no_batch, no_rows, no_workers, number_is, options_are, refused-without}
 use Rattle.run_model.proofs.Taken.{asked_errs, asked_options, asked_ruled}
 use Rattle.run_model.proofs.words.options.Goals as goal

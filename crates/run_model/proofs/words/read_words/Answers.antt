@@ -1,7 +1,8 @@
 use Rattle.std.proofs.Common.{subst}
 use Rattle.clap.specs.Words.{app_of}
 use Rattle.clap.specs.declared.error.kind.ErrorKind.{ErrorKind}
-use Rattle.run_model.specs.Words.{ErrorOf, texts_of}
+use Rattle.run_model.specs.promise.Words.{texts_of}
+use Rattle.run_model.specs.Words.{ErrorOf}
 use Rattle.run_model.proofs.Taken.{asked_errs, asked_options, asked_ruled, refused_words, taken_words}
 use Rattle.run_model.proofs.words.read_words.Goals as goal
 

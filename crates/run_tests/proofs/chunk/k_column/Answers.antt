@@ -1,10 +1,11 @@
 use Rattle.std.proofs.Common.{◌≡◌, ◌+◌, Some, ap, subst, sym, arith}
 use Rattle.std.proofs.lemmas.Result.{IfOk-weaker, on_err_weaker, on_ok_weaker}
-use Rattle.arr_export.specs.ArrayTrees.{AreIndices, column_tree}
+use Rattle.arr_export.specs.promise.ArrayTrees.{column_tree}
+use Rattle.arr_export.specs.ArrayTrees.{AreIndices}
 use Rattle.arr_export.specs.ValueColumns.{tree_of}
 use Rattle.column_fill.specs.Tables.{index_type}
-use Rattle.raw_array.specs.Members.{ArrayTree, Cost}
-use Rattle.unit_pass.specs.Tally.{risen}
+use Rattle.raw_array.specs.promise.Members.{ArrayTree, Cost}
+use Rattle.unit_pass.specs.promise.Tally.{risen}
 use Rattle.run_tests.proofs.Fitting.{own-indices}
 use Rattle.run_tests.specs.Own.{entries, k_values, places}
 use Rattle.run_tests.proofs.chunk.k_column.Goals as goal

@@ -1,9 +1,10 @@
 use Rattle.std.proofs.Common.{rules, ◌≡◌, ◌+◌, ◌<◌, [], ◌∷◌, ◌++◌, length, get_or, map, arith}
-use Rattle.tree_model.specs.Tree.{Released, children_of}
+use Rattle.tree_model.specs.promise.TreeData.{Released}
+use Rattle.tree_model.specs.promise.TreeParts.{children_of}
 use Rattle.data_types.specs.declared.typed.Typed.{Typed}
 use Rattle.data_types.specs.declared.typed.Typed.TheOpen.{Typed-F}
-use Rattle.data_types.specs.TypedView.{typed_of}
-use Rattle.data_types.specs.Ways.{steps_of}
+use Rattle.data_types.specs.promise.TypedView.{typed_of}
+use Rattle.data_types.specs.promise.Ways.{steps_of}
 use Rattle.schema_check.proofs.SchemaParts.{typed-node, fault-kid, fault-renamed, kids-step, parts}
 use Rattle.schema_check.proofs.schema.+typed.Goals as goal
 

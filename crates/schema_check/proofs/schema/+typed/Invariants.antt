@@ -1,7 +1,8 @@
 use Rattle.std.proofs.Common.{◌+◌, ◌*◌, ◌-◌, map, take}
-use Rattle.tree_model.specs.Tree.{children_of, trees}
-use Rattle.data_types.specs.TypedView.{typed_of}
-use Rattle.schema_check.specs.Schemas.{KidsTyped}
+use Rattle.tree_model.specs.promise.TreeParts.{children_of}
+use Rattle.tree_model.specs.promise.TreeData.{trees}
+use Rattle.data_types.specs.promise.TypedView.{typed_of}
+use Rattle.schema_check.specs.promise.Schemas.{KidsTyped}
 use Rattle.schema_check.proofs.schema.+typed.Given as goal
 
 abbrev pub decreases-typed_from : goal.decreases-typed_from

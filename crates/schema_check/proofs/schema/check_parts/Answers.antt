@@ -1,7 +1,8 @@
 use Rattle.std.proofs.Common.{rules, ◌≡◌, ◌+◌, ◌≤◌, refl, sym, subst, true, false, arith}
-use Rattle.tree_model.specs.Tree.{trees, maybe_tree, children_of, dictionary_of}
-use Rattle.data_types.specs.Ways.{steps_of}
-use Rattle.schema_check.specs.Schemas.{ChildrenFit, IndexFits, MapFits}
+use Rattle.tree_model.specs.promise.TreeData.{trees, maybe_tree}
+use Rattle.tree_model.specs.promise.TreeParts.{children_of, dictionary_of}
+use Rattle.data_types.specs.promise.Ways.{steps_of}
+use Rattle.schema_check.specs.promise.Schemas.{ChildrenFit, IndexFits, MapFits}
 use Rattle.schema_check.specs.SchemaAnswers.{FaultHere}
 use Rattle.schema_check.proofs.SchemaFails.{refuted, granted, fails-children, fails-index, fails-map, fails}
 use Rattle.schema_check.proofs.schema.check_parts.Goals as goal

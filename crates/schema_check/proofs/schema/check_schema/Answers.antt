@@ -1,8 +1,8 @@
 use Rattle.std.proofs.Common.{rules}
 use Rattle.std.specs.Prelude.{IfOk, IfErr}
-use Rattle.schema_check.specs.Schemas.{TypedOf}
+use Rattle.schema_check.specs.promise.Schemas.{TypedOf}
 use Rattle.schema_check.specs.SchemaAnswers.{IsFirstFault}
-use Rattle.data_types.specs.TypedView.{typed_of}
+use Rattle.data_types.specs.promise.TypedView.{typed_of}
 use Rattle.schema_check.proofs.SchemaOne.{gives}
 use Rattle.schema_check.proofs.schema.check_schema.Goals as goal
 

@@ -1,7 +1,7 @@
 use Rattle.std.proofs.Common.{rules, ◌≡◌}
 use Rattle.std.specs.Prelude.{codes}
-use Rattle.tree_model.specs.Tree.{IsLive}
-use Rattle.raw_schema.specs.Members.{members_of}
+use Rattle.tree_model.specs.promise.TreeParts.{IsLive}
+use Rattle.raw_schema.specs.promise.Members.{members_of}
 use Rattle.schema_check.proofs.SchemaFails.{pair_is, pair_two}
 use Rattle.schema_check.proofs.schema.is_pair.Goals as goal
 

@@ -1,7 +1,7 @@
 use Rattle.std.proofs.Common.{arith, refl, [], ◌∷◌, ◌++◌}
 use Rattle.std.proofs.lemmas.Result.{err_from_is_err_and}
 use Rattle.schema_meta.specs.Meta.{pair_of}
-use Rattle.schema_meta.specs.Meta.Place.{AtCount}
+use Rattle.schema_meta.specs.promise.Meta.Place.{AtCount}
 use Rattle.schema_meta.proofs.Loop.{at_start, one_more, begun, begun_fits, begun_split, ended_whole, ended_trailing}
 use Rattle.schema_meta.proofs.reading.walked.Goals as goal
 

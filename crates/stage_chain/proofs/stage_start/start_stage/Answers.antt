@@ -2,9 +2,9 @@ use Rattle.std.proofs.Common.{arith, ◌+◌, ◌∙◌, List, map, ap, subst}
 use Rattle.std.specs.Prelude.{None, Some}
 use Rattle.std.specs.List.{sum_by}
 use Rattle.data_types.specs.ColumnView.{column_of}
-use Rattle.data_types.specs.Table.{Row}
+use Rattle.data_types.specs.promise.Table.{Row}
 use Rattle.stream_face.specs.Meaning.{meaning, raw_link}
-use Rattle.stage_model.specs.Traffic.{made_blocks, made_nodes}
+use Rattle.stage_model.specs.promise.Traffic.{made_blocks, made_nodes}
 use Rattle.data_types.specs.declared.kind.ColumnType.{ColumnType}
 use Rattle.stage_chain.specs.Plans.{stage_in}
 use Rattle.stage_chain.proofs.TypedKinds.{kinds-ok}

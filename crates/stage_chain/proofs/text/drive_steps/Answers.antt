@@ -1,19 +1,21 @@
 use Rattle.std.proofs.lemmas.Grind.{common_steps}
 use Rattle.std.proofs.Common.{arith, ◌≡◌, ℕ, IfOk, List, [], length, get_or, drop, sym, ◌∙◌, ap, subst}
-use Rattle.csv_model.specs.Text.{header_text}
+use Rattle.csv_model.specs.promise.Text.{header_text}
 use Rattle.csv_write.specs.CsvTexts.{HasText}
 use Rattle.field_codec.specs.TextColumns.{HaveTexts}
 use Rattle.stage_model.specs.Links.{last_columns}
-use Rattle.csv_model.specs.Text.{table_text}
-use Rattle.data_types.specs.Parts.{joined_rows}
-use Rattle.data_types.specs.Table.{Column}
-use Rattle.stage_model.specs.Links.{Whole}
-use Rattle.stage_model.specs.Stages.{table}
-use Rattle.stage_model.specs.Typing.{Stage}
+use Rattle.csv_model.specs.promise.Text.{table_text}
+use Rattle.data_types.specs.promise.Parts.{joined_rows}
+use Rattle.data_types.specs.promise.Table.{Column}
+use Rattle.stage_model.specs.promise.Links.{Whole}
+use Rattle.stage_model.specs.promise.Stages.{table}
+use Rattle.stage_model.specs.promise.Typing.{Stage}
 use Rattle.stream_face.specs.Streams.{IsFresh, Stream}
 use Rattle.stage_chain.specs.Boxes.{boxed_state}
-use Rattle.stage_chain.specs.Chains.{chain_links, chain_traffic, joints_with, makings_with, ShowsFirst, ShowsLinks}
-use Rattle.csv_write.specs.Runs.{Counted, ShowsAll}
+use Rattle.stage_chain.specs.promise.Chains.{ShowsFirst, ShowsLinks}
+use Rattle.stage_chain.specs.Chains.{chain_links, chain_traffic, joints_with, makings_with}
+use Rattle.csv_write.specs.promise.Runs.{ShowsAll}
+use Rattle.csv_write.specs.Runs.{Counted}
 use Rattle.csv_write.proofs.RunLemmas.{on-row}
 use Rattle.stage_chain.specs.Plans.{AreStages, links_of, plan_stages, stages_in, stages_left}
 use Rattle.stage_chain.proofs.Chaining.{on-err, on-ok, shows-nothing, whatever}

@@ -1,14 +1,14 @@
 use Rattle.std.proofs.Common.{◌≡◌, ◌∙◌, ◌≤◌, ◌^◌, ℕ, List, map, length, sym, ap, subst, arith}
 use Rattle.data_types.specs.ColumnView.{column_of}
-use Rattle.data_types.specs.Table.{Row}
-use Rattle.tree_model.specs.Tree.{children_of}
-use Rattle.unit_pass.specs.Tally.{risen}
-use Rattle.data_types.specs.ColumnKinds.{type_of_columns}
-use Rattle.data_types.specs.KindTrees.{KindTree}
-use Rattle.layout_rules.specs.Values.{rows_of}
+use Rattle.data_types.specs.promise.Table.{Row}
+use Rattle.tree_model.specs.promise.TreeParts.{children_of}
+use Rattle.unit_pass.specs.promise.Tally.{risen}
+use Rattle.data_types.specs.promise.ColumnKinds.{type_of_columns}
+use Rattle.data_types.specs.promise.KindTrees.{KindTree}
+use Rattle.layout_rules.specs.promise.Values.{rows_of}
 use Rattle.arr_import.specs.Window.{IsStruct}
-use Rattle.stage_model.specs.Stages.{rows_after}
-use Rattle.stage_model.specs.Traffic.{Moved, table_blocks}
+use Rattle.stage_model.specs.promise.Stages.{rows_after}
+use Rattle.stage_model.specs.promise.Traffic.{Moved, table_blocks}
 use Rattle.stage_model.specs.declared.stage.Step.TheVariants as steps
 use Rattle.stage_filter.specs.Filters.{passing_numbers}
 use Rattle.stage_filter.proofs.LikeChunks.{LikeLaws, can-like}

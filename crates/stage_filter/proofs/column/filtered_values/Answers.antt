@@ -1,5 +1,5 @@
-use Rattle.data_types.specs.Table.{Flat}
-use Rattle.data_types.specs.ColumnKinds.{type_of_kind}
+use Rattle.data_types.specs.promise.Table.{Flat}
+use Rattle.data_types.specs.promise.ColumnKinds.{type_of_kind}
 use Rattle.column_fill.specs.Gathered.{values_at}
 use Rattle.stage_filter.proofs.MovedColumns.{can-gather, moved-flat}
 use Rattle.stage_filter.proofs.column.filtered_values.Goals as goal

@@ -1,18 +1,22 @@
 use Rattle.std.proofs.Common.{rules, ◌≡◌, ◌∙◌, ◌≤◌, ◌<◌, ◌+◌, ◌++◌, ◌∷◌, [], map, take, length, get_or, List, All, pos, to_z, w64, sym, ap, subst, arith}
 use Rattle.std.proofs.lemmas.Int.{ints}
 use Rattle.std.proofs.lemmas.List.{get_or-map, length-map, length-set, length-take, map_more, take-map}
-use Rattle.data_types.specs.ColumnView.{column_of, kind_of, members}
-use Rattle.data_types.specs.Parts.{column_values}
-use Rattle.data_types.specs.Table.{Column, Columns as StructOf}
+use Rattle.data_types.specs.promise.ColumnView.{members}
+use Rattle.data_types.specs.ColumnView.{column_of, kind_of}
+use Rattle.data_types.specs.promise.Parts.{column_values}
+use Rattle.data_types.specs.promise.Table.{Column, Columns as StructOf}
 use Rattle.data_types.specs.declared.kind.ColKind.{ColKind}
 use Rattle.data_types.specs.declared.kind.ColumnType.{ColumnType}
-use Rattle.tree_model.specs.Tree.{IsLive, Released, child_at, children_of, trees}
-use Rattle.raw_array.specs.Members.{ArrayTree, cost_of_all, members_of}
-use Rattle.data_types.specs.ColumnKinds.{type_of_columns, type_of_kind}
+use Rattle.tree_model.specs.promise.TreeParts.{IsLive, child_at, children_of}
+use Rattle.tree_model.specs.promise.TreeData.{Released, trees}
+use Rattle.raw_array.specs.promise.Members.{ArrayTree, members_of}
+use Rattle.raw_array.specs.Members.{cost_of_all}
+use Rattle.data_types.specs.promise.ColumnKinds.{type_of_columns, type_of_kind}
 use Rattle.data_types.specs.KindTrees.{TypedOk}
-use Rattle.layout_rules.specs.Layout.{first, natural}
+use Rattle.layout_rules.specs.promise.Layout.{first, natural}
 use Rattle.data_types.specs.declared.typed.Typed.{out-Typed}
-use Rattle.data_types.specs.TypedView.{kids_of, typed_of}
+use Rattle.data_types.specs.promise.TypedView.{typed_of}
+use Rattle.data_types.specs.TypedView.{kids_of}
 use Rattle.arr_export.specs.ArrayTrees.{IsColumn}
 use Rattle.arr_move.proofs.MovedChildren.{at-place, children-set, cost-push, rest-taken}
 use Rattle.stage_filter.specs.Kept.{rows_at}

@@ -1,9 +1,12 @@
 use Rattle.std.proofs.Common.{◌≡◌, ◌≤◌, ◌+◌, ◌*◌, map, take, drop, length, vec_len}
 use Rattle.std.specs.Vec.{vec_capacity}
 use Rattle.data_types.specs.ColumnView.{column_of, kind_of}
-use Rattle.tree_model.specs.Tree.{Depth, children_of, depth_of_all, trees}
-use Rattle.raw_array.specs.Members.{Cost, cost_of_all}
-use Rattle.data_types.specs.ColumnKinds.{type_of_columns, type_of_kind, types_of_columns}
+use Rattle.tree_model.specs.promise.TreeParts.{children_of}
+use Rattle.tree_model.specs.promise.TreeData.{trees}
+use Rattle.tree_model.specs.Tree.{Depth, depth_of_all}
+use Rattle.raw_array.specs.promise.Members.{Cost}
+use Rattle.raw_array.specs.Members.{cost_of_all}
+use Rattle.data_types.specs.promise.ColumnKinds.{type_of_columns, type_of_kind, types_of_columns}
 use Rattle.stage_filter.specs.Kept.{rows_at}
 use Rattle.stage_filter.specs.Moving.{AreFiltered}
 use Rattle.stage_filter.proofs.columns.+filtered.Given as goal

@@ -3,10 +3,10 @@ use Rattle.std.proofs.lemmas.Int.{ints}
 use Rattle.arr_export.specs.ArrayTrees.{flat_type}
 use Rattle.arr_import.specs.Lent.{lent_bytes}
 use Rattle.col_build.specs.Holding.{Holds, Takes}
-use Rattle.data_types.specs.Table.{Dict}
-use Rattle.data_types.specs.Value.{Value}
-use Rattle.data_types.specs.ColumnKinds.{type_of_kind}
-use Rattle.layout_rules.specs.Values.{value_at}
+use Rattle.data_types.specs.promise.Table.{Dict}
+use Rattle.data_types.specs.promise.Value.{Value}
+use Rattle.data_types.specs.promise.ColumnKinds.{type_of_kind}
+use Rattle.layout_rules.specs.promise.Values.{value_at}
 use Rattle.stage_filter.specs.KeptTrees.{index_type, indices_at}
 use Rattle.stage_filter.proofs.IndexedItems.{has-dictionary, index-kind, index-values, next-place}
 use Rattle.column_fill.proofs.ItemsMoved.{holds-wholes, one-more, taken, takes-next}

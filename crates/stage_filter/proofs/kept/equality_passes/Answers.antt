@@ -1,8 +1,8 @@
 use Rattle.std.proofs.Common.{◌∙◌, sym, ap}
 use Rattle.arr_import.specs.Cols.{window_of}
 use Rattle.arr_import.specs.Window.{item_at}
-use Rattle.data_types.specs.Value.{Value}
-use Rattle.stage_model.specs.Stages.{passes}
+use Rattle.data_types.specs.promise.Value.{Value}
+use Rattle.stage_model.specs.promise.Stages.{passes}
 use Rattle.stage_model.specs.declared.stage.Const.TheVariants as consts
 use Rattle.stage_filter.specs.Kept.{equality}
 use Rattle.stage_filter.proofs.Tests.{no-bytes-pass}

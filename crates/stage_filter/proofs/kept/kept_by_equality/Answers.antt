@@ -1,7 +1,7 @@
 use Rattle.std.proofs.Common.{◌∙◌, ◌++◌, ◌∷◌, [], List, ℕ, Bool, ap, sym}
 use Rattle.arr_import.specs.Cols.{window_of}
 use Rattle.arr_import.specs.Window.{item_at}
-use Rattle.stage_model.specs.Stages.{passes}
+use Rattle.stage_model.specs.promise.Stages.{passes}
 use Rattle.stage_model.specs.declared.stage.Const.TheVariants as consts
 use Rattle.stage_filter.specs.Kept.{equality}
 use Rattle.stage_filter.proofs.Numbers.{more-no, more-yes}

@@ -1,7 +1,7 @@
 use Rattle.std.proofs.Common.{◌∙◌, ◌++◌, ◌∷◌, [], List, ℕ, Bool, ap, sym}
 use Rattle.arr_import.specs.Cols.{window_of}
 use Rattle.arr_import.specs.Window.{item_at}
-use Rattle.stage_model.specs.Stages.{passes}
+use Rattle.stage_model.specs.promise.Stages.{passes}
 use Rattle.stage_filter.proofs.Numbers.{more-no, more-yes}
 use Rattle.stage_filter.proofs.kept.kept_by_null.Goals as goal
 use Rattle.stage_filter.proofs.kept.kept_by_null.Goals.{then-null_passes+in_ok-push, else-null_passes}

@@ -1,6 +1,6 @@
 use Rattle.std.proofs.Common.{rules, ◌≡◌, ◌∙◌, ◌-◌, true, ap, sym}
 use Rattle.arr_import.specs.Cols.{window_of}
-use Rattle.stage_model.specs.Typing.{compares}
+use Rattle.stage_model.specs.promise.Typing.{compares}
 use Rattle.stage_model.specs.declared.stage.Const.{Const}
 use Rattle.stage_filter.specs.Kept.{kept_numbers}
 use Rattle.stage_filter.proofs.Tests.{no-constant}

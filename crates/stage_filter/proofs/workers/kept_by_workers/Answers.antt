@@ -1,6 +1,6 @@
 use Rattle.std.proofs.Common.{arith, ◌≡◌, ◌∙◌, ℕ, List, IfOk, length, sym, ap, subst}
-use Rattle.data_types.specs.TypedView.{typed_of}
-use Rattle.layout_rules.specs.Values.{rows_of, tree_items}
+use Rattle.data_types.specs.promise.TypedView.{typed_of}
+use Rattle.layout_rules.specs.promise.Values.{rows_of, tree_items}
 use Rattle.arr_import.specs.Window.{child_window, whole}
 use Rattle.stage_filter.specs.Kept.{kept_numbers}
 use Rattle.stage_filter.specs.Workers.{row_numbers}

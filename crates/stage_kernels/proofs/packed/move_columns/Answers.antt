@@ -1,9 +1,11 @@
 use Rattle.std.proofs.Common.{arith, ◌<◌, ◌∙◌, ◌++◌, ◌∷◌, [], length, get_or, ap, sym}
 use Rattle.std.proofs.lemmas.List.{map_more}
-use Rattle.tree_model.specs.Tree.{Released, child_at, children_of, trees}
+use Rattle.tree_model.specs.promise.TreeData.{Released, trees}
+use Rattle.tree_model.specs.promise.TreeParts.{child_at, children_of}
 use Rattle.tree_model.proofs.Measures.{cost_of_all-append}
 use Rattle.tree_model.proofs.Parted.{Cost-child}
-use Rattle.raw_array.specs.Members.{Cost, cost_of_all, holds, members_of}
+use Rattle.raw_array.specs.promise.Members.{Cost, holds, members_of}
+use Rattle.raw_array.specs.Members.{cost_of_all}
 use Rattle.raw_array.proofs.Windows.{Cost-Window}
 use Rattle.stage_kernels.specs.Packs.{column_in}
 use Rattle.stage_kernels.proofs.PackedTrees.{column-stays, left-more}

@@ -1,7 +1,8 @@
 use Rattle.std.proofs.Common.{◌≡◌, ◌+◌, map, take, vec_len}
 use Rattle.std.specs.Vec.{vec_capacity}
-use Rattle.tree_model.specs.Tree.{trees}
-use Rattle.raw_array.specs.Members.{Cost, cost_of_all}
+use Rattle.tree_model.specs.promise.TreeData.{trees}
+use Rattle.raw_array.specs.promise.Members.{Cost}
+use Rattle.raw_array.specs.Members.{cost_of_all}
 use Rattle.stage_kernels.specs.Packs.{LeftOf, column_in}
 use Rattle.stage_kernels.proofs.packed.move_columns.Given as goal
 

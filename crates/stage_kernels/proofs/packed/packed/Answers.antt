@@ -1,9 +1,11 @@
 use Rattle.std.proofs.Common.{arith, ◌≡◌, ◌≤◌, ◌≤ℤ◌, ◌∙◌, All, IfOk, length, map, pos, get_or, ap, sym, subst, w64, to_z, of_z}
 use Rattle.std.proofs.lemmas.Int.{ints}
-use Rattle.tree_model.specs.Tree.{IsLive, depth_of_all, trees}
-use Rattle.raw_array.specs.Members.{ArrayTree, Cost, members_of}
-use Rattle.data_types.specs.ColumnKinds.{type_of_columns}
-use Rattle.layout_rules.specs.Layout.{natural}
+use Rattle.tree_model.specs.promise.TreeParts.{IsLive}
+use Rattle.tree_model.specs.promise.TreeData.{trees}
+use Rattle.tree_model.specs.Tree.{depth_of_all}
+use Rattle.raw_array.specs.promise.Members.{ArrayTree, Cost, members_of}
+use Rattle.data_types.specs.promise.ColumnKinds.{type_of_columns}
+use Rattle.layout_rules.specs.promise.Layout.{natural}
 use Rattle.arr_move.specs.TreeActs.{FitParentWindow}
 use Rattle.arr_export.specs.ArrayTrees.{IsColumn}
 use Rattle.stages.proofs.CutColumns.{natural-is}

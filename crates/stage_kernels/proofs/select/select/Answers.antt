@@ -1,4 +1,4 @@
-use Rattle.data_types.specs.ColumnKinds.{type_of_columns}
+use Rattle.data_types.specs.promise.ColumnKinds.{type_of_columns}
 use Rattle.stage_kernels.proofs.select.select.Goals as goal
 
 pub take_columns-requires-clause-live : goal.take_columns-requires-clause-live

@@ -1,6 +1,6 @@
 use Rattle.std.proofs.Common.{rules, ◌≡◌, pos, ℤ, to_z, of_z, w64, sym, subst}
 use Rattle.raw_array.specs.Windows.{FitsWindow}
-use Rattle.data_types.specs.ColumnKinds.{type_of_columns}
+use Rattle.data_types.specs.promise.ColumnKinds.{type_of_columns}
 use Rattle.stage_kernels.proofs.slice.cut.Goals as goal
 
 pub slice-requires-clause-fits : goal.slice-requires-clause-fits

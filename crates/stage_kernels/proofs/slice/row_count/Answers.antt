@@ -1,5 +1,5 @@
 use Rattle.std.proofs.Common.{rules}
-use Rattle.data_types.specs.ColumnKinds.{type_of_columns}
+use Rattle.data_types.specs.promise.ColumnKinds.{type_of_columns}
 use Rattle.stage_kernels.proofs.slice.row_count.Goals as goal
 
 pub length-requires : goal.length-requires

@@ -1,6 +1,6 @@
 use Rattle.std.proofs.Common.{arith}
-use Rattle.data_types.specs.ColumnKinds.{types_of_columns}
-use Rattle.stage_model.specs.Typing.{no_column}
+use Rattle.data_types.specs.promise.ColumnKinds.{types_of_columns}
+use Rattle.stage_model.specs.promise.Typing.{no_column}
 use Rattle.stages.proofs.StructChildren.{StructLaws}
 use Rattle.stage_kernels.proofs.UnpackedChildren.{few-columns, few-rows, shown-inner, table-columns}
 use Rattle.stage_kernels.proofs.unpacked.structs_can_be_unpacked.Goals as goal

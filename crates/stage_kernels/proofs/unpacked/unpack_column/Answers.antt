@@ -1,6 +1,6 @@
 use Rattle.std.proofs.Common.{arith, ◌≡◌, ◌∙◌, ap, w64, to_z, of_z}
 use Rattle.std.proofs.lemmas.Int.{ints}
-use Rattle.raw_array.specs.Members.{Cost, members_of}
+use Rattle.raw_array.specs.promise.Members.{Cost, members_of}
 use Rattle.stage_kernels.proofs.UnpackedChildren.{table-is}
 use Rattle.stage_kernels.proofs.unpacked.unpack_column.Goals as goal
 

@@ -2,9 +2,9 @@ use Rattle.std.proofs.Common.{◌≡◌, ◌∙◌, ◌++◌, List, ℕ, ℤ, tr
 use Rattle.std.specs.Prelude.{codes}
 use Rattle.std.proofs.lemmas.Result.{on_ok_weaker}
 use Rattle.data_types.specs.ColumnView.{column_of}
-use Rattle.data_types.specs.Table.{Flat}
+use Rattle.data_types.specs.promise.Table.{Flat}
 use Rattle.data_types.specs.declared.kind.DataType.TheVariants as kinds
-use Rattle.stage_model.specs.Typing.{column, scale_of}
+use Rattle.stage_model.specs.promise.Typing.{column, scale_of}
 use Rattle.stage_plan.specs.PlanWords.{columns_in, with_end}
 use Rattle.stage_plan.proofs.AfterColumns.{four-added, one-added}
 use Rattle.stage_plan.proofs.after.add_totals.Goals as goal

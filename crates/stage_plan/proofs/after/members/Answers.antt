@@ -1,11 +1,12 @@
 use Rattle.std.proofs.Common.{◌≡◌, ◌∙◌, ap, sym, subst, List, map}
 use Rattle.data_types.specs.ColumnForms.{KindsOk}
-use Rattle.data_types.specs.ColumnView.{column_of, kind_of, members}
-use Rattle.data_types.specs.Parts.{member_columns}
-use Rattle.data_types.specs.Table.{Columns, Kind}
+use Rattle.data_types.specs.promise.ColumnView.{members}
+use Rattle.data_types.specs.ColumnView.{column_of, kind_of}
+use Rattle.data_types.specs.promise.Parts.{member_columns}
+use Rattle.data_types.specs.promise.Table.{Columns, Kind}
 use Rattle.data_types.specs.declared.kind.ColumnType.{ColumnType}
 use Rattle.data_types.proofs.ColumnCopies.{members-ok, struct-view}
-use Rattle.stage_model.specs.Typing.{struct_members}
+use Rattle.stage_model.specs.promise.Typing.{struct_members}
 use Rattle.stage_plan.proofs.AfterColumns.{members-back}
 use Rattle.stage_plan.proofs.after.members.Goals as goal
 

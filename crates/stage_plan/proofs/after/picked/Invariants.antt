@@ -1,7 +1,7 @@
 use Rattle.std.proofs.Common.{◌≡◌, map, take}
 use Rattle.data_types.specs.ColumnView.{column_of}
-use Rattle.data_types.specs.Parts.{picked}
-use Rattle.stage_model.specs.Typing.{no_column}
+use Rattle.data_types.specs.promise.Parts.{picked}
+use Rattle.stage_model.specs.promise.Typing.{no_column}
 use Rattle.stage_plan.specs.PlanWords.{columns_in}
 use Rattle.stage_plan.proofs.after.picked.Given as goal
 

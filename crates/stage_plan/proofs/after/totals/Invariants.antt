@@ -1,8 +1,8 @@
 use Rattle.std.proofs.Common.{◌≡◌, map, take}
 use Rattle.std.specs.List.{flat_map}
 use Rattle.data_types.specs.ColumnView.{column_of}
-use Rattle.data_types.specs.Parts.{picked}
-use Rattle.stage_model.specs.Typing.{no_column, totals_columns}
+use Rattle.data_types.specs.promise.Parts.{picked}
+use Rattle.stage_model.specs.promise.Typing.{no_column, totals_columns}
 use Rattle.stage_plan.specs.PlanWords.{columns_in}
 use Rattle.stage_plan.proofs.after.totals.Given as goal
 

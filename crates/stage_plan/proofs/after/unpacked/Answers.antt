@@ -1,9 +1,9 @@
 use Rattle.std.proofs.Common.{◌∙◌, ◌++◌, ap, sym, get_or, List}
 use Rattle.std.proofs.lemmas.List.{get_or-map}
 use Rattle.data_types.specs.ColumnView.{column_of}
-use Rattle.data_types.specs.Parts.{member_columns}
-use Rattle.data_types.specs.Table.{Column}
-use Rattle.stage_model.specs.Typing.{no_column, struct_members}
+use Rattle.data_types.specs.promise.Parts.{member_columns}
+use Rattle.data_types.specs.promise.Table.{Column}
+use Rattle.stage_model.specs.promise.Typing.{no_column, struct_members}
 use Rattle.stage_plan.specs.PlanWords.{columns_in}
 use Rattle.stage_plan.proofs.AfterColumns.{three-parts}
 use Rattle.stage_plan.proofs.after.unpacked.Goals as goal

@@ -1,8 +1,8 @@
 use Rattle.std.proofs.Common.{◌≡◌, ◌∙◌, ◌++◌, [], ◌∷◌, ap, sym, get_or}
 use Rattle.std.proofs.lemmas.List.{get_or-map, map-append}
 use Rattle.data_types.specs.ColumnView.{column_of, kind_of}
-use Rattle.data_types.specs.Table.{Column, Kind}
-use Rattle.stage_model.specs.Typing.{column, no_column}
+use Rattle.data_types.specs.promise.Table.{Column, Kind}
+use Rattle.stage_model.specs.promise.Typing.{column, no_column}
 use Rattle.stage_plan.specs.PlanWords.{columns_in, kind_by}
 use Rattle.stage_plan.proofs.AfterColumns.{one-replaced}
 use Rattle.stage_plan.proofs.after.with_kind.Goals as goal

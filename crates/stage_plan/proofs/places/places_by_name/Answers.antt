@@ -1,7 +1,7 @@
 use Rattle.std.proofs.Common.{◌≡◌, ◌∙◌, sym, ap, arith}
 use Rattle.std.specs.Str.{bytes_eq}
 use Rattle.data_types.specs.ColumnView.{column_of}
-use Rattle.data_types.specs.Table.{Column}
+use Rattle.data_types.specs.promise.Table.{Column}
 use Rattle.stage_plan.proofs.NamedPlaces.{all-behind, place_behind}
 use Rattle.stage_plan.proofs.PlanLists.{position-map}
 use Rattle.stage_plan.proofs.places.places_by_name.Goals as goal

@@ -1,7 +1,7 @@
 use Rattle.std.proofs.Common.{◌≡◌, take, false}
 use Rattle.std.specs.Prelude.{is_none}
 use Rattle.std.specs.List.{list_any}
-use Rattle.stage_model.specs.Typing.{place_if, places_of}
+use Rattle.stage_model.specs.promise.Typing.{place_if, places_of}
 use Rattle.stage_plan.specs.PlanWords.{columns_in}
 use Rattle.stage_plan.proofs.places.places_of.Given as goal
 

@@ -1,5 +1,5 @@
 use Rattle.std.proofs.Common.{◌≡◌, ◌++◌, length}
-use Rattle.stage_model.specs.StageGrammar.{names_in}
+use Rattle.stage_model.specs.promise.StageGrammar.{names_in}
 use Rattle.stage_plan.proofs.stages.names_in.Given as goal
 
 -- the names so far, and those of the rest

@@ -1,5 +1,5 @@
 use Rattle.std.proofs.Common.{◌∙◌, ap, sym}
-use Rattle.stage_model.specs.StageGrammar.{read_filter}
+use Rattle.stage_model.specs.promise.StageGrammar.{read_filter}
 use Rattle.stage_plan.proofs.stages.read_filter.Goals as goal
 
 pub returns-in_default-read_test : goal.returns-in_default-read_test

@@ -1,5 +1,5 @@
 use Rattle.std.proofs.Common.{◌≡◌, ◌∙◌, ap, sym, subst, List, ℕ, take, drop, length, ◌-◌}
-use Rattle.stage_plan.specs.Types.{CutsAt}
+use Rattle.stage_plan.specs.promise.Types.{CutsAt}
 use Rattle.stage_plan.proofs.Cuts.{all_lack, cut_at, tail_all}
 use Rattle.stage_plan.proofs.types.cut.Goals as goal
 

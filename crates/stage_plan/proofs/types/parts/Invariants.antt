@@ -1,5 +1,5 @@
 use Rattle.std.proofs.Common.{◌≡◌, ◌++◌, map, length}
-use Rattle.stage_plan.specs.Types.{parts}
+use Rattle.stage_plan.specs.promise.Types.{parts}
 use Rattle.stage_plan.proofs.types.parts.Given as goal
 
 abbrev pub invariant-loop-part : goal.invariant-loop-part

@@ -1,7 +1,8 @@
 use Rattle.std.proofs.Common.{◌∙◌, ◌+◌, ap, sym, subst, arith, refl, List, ℕ, length, map, Err, [], ◌∷◌, ◌++◌}
 use Rattle.std.proofs.lemmas.Result.{err_from_is_err_and}
 use Rattle.stage_plan.specs.Code.{entry_of}
-use Rattle.stage_plan.specs.Types.{parts, Gives, TypesFaultIs}
+use Rattle.stage_plan.specs.promise.Types.{parts, TypesFaultIs}
+use Rattle.stage_plan.specs.Types.{Gives}
 use Rattle.stage_plan.specs.declared.types.TypeEntry.{TypeEntry}
 use Rattle.stage_plan.specs.declared.fault.TypesFault.{TypesFault}
 use Rattle.stage_plan.specs.declared.fault.TypesFault.TheVariants.{At}

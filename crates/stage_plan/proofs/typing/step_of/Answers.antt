@@ -1,5 +1,5 @@
 use Rattle.std.proofs.Common.{◌≡◌, ◌∙◌, ℕ, List, ap, get_or, sym}
-use Rattle.stage_model.specs.Typing.{names_of, place_of, places_of}
+use Rattle.stage_model.specs.promise.Typing.{names_of, place_of, places_of}
 use Rattle.stage_model.specs.declared.stage.StageText.{StageText}
 use Rattle.stage_model.specs.declared.stage.StageText.TheVariants as texts
 use Rattle.stage_plan.specs.PlanWords.{columns_in}

@@ -2,9 +2,9 @@ use Rattle.std.proofs.Common.{◌≡◌, ◌∙◌, ◌<◌, ap, subst, sym, ari
 use Rattle.std.specs.List.{list_all}
 use Rattle.std.proofs.lemmas.List.{get_or-map, length-map}
 use Rattle.data_types.specs.ColumnView.{column_of}
-use Rattle.data_types.specs.Parts.{picked}
-use Rattle.data_types.specs.Table.{Column}
-use Rattle.stage_model.specs.Typing.{no_column, takes}
+use Rattle.data_types.specs.promise.Parts.{picked}
+use Rattle.data_types.specs.promise.Table.{Column}
+use Rattle.stage_model.specs.promise.Typing.{no_column, takes}
 use Rattle.stage_plan.specs.PlanWords.{columns_in}
 use Rattle.stage_plan.proofs.PlanLists.{all-fails}
 use Rattle.stage_plan.proofs.typing.takes_all.Goals as goal

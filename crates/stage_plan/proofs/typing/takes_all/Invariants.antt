@@ -1,7 +1,7 @@
 use Rattle.std.proofs.Common.{◌≡◌, take, true}
 use Rattle.std.specs.List.{list_all}
-use Rattle.data_types.specs.Parts.{picked}
-use Rattle.stage_model.specs.Typing.{no_column, takes}
+use Rattle.data_types.specs.promise.Parts.{picked}
+use Rattle.stage_model.specs.promise.Typing.{no_column, takes}
 use Rattle.stage_plan.specs.PlanWords.{columns_in}
 use Rattle.stage_plan.proofs.typing.takes_all.Given as goal
 

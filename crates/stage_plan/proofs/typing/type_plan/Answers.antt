@@ -3,9 +3,10 @@ use Rattle.std.proofs.lemmas.List.{map-append}
 use Rattle.std.proofs.lemmas.Result.{err_from_is_err_and}
 use Rattle.std.specs.List.{list_any}
 use Rattle.data_types.specs.ColumnView.{column_of, kind_of}
-use Rattle.data_types.specs.Table.{Column}
+use Rattle.data_types.specs.promise.Table.{Column}
 use Rattle.data_types.specs.declared.kind.ColumnType.{ColumnType}
-use Rattle.stage_model.specs.Typing.{PlanFaultIs, Stage, is_struct, stage_over, with_stage}
+use Rattle.stage_model.specs.promise.Typing.{Stage, is_struct, stage_over, with_stage}
+use Rattle.stage_model.specs.Typing.{PlanFaultIs}
 use Rattle.stage_model.specs.declared.fault.PlanFault.TheVariants.{At, NoMemory}
 use Rattle.stage_model.specs.declared.fault.PlanRule.TheVariants as rules
 use Rattle.stage_model.specs.declared.stage.StageText.{StageText}

@@ -1,16 +1,17 @@
 use Rattle.std.proofs.Common.{rules, ◌≡◌, ◌∙◌, pos, IsTrue, w32, of_z, to_z, sym, ap, subst, refl}
 use Rattle.std.proofs.Common.{◌++◌, List, [], ◌∷◌, Option, map}
 use Rattle.std.proofs.lemmas.List.{append_cancel_right}
-use Rattle.data_types.specs.ColumnKinds.{type_of_columns}
+use Rattle.data_types.specs.promise.ColumnKinds.{type_of_columns}
 use Rattle.data_types.specs.ColumnView.{column_of}
-use Rattle.data_types.specs.Table.{Row}
+use Rattle.data_types.specs.promise.Table.{Row}
 use Rattle.data_types.specs.declared.kind.ColumnType.{ColumnType}
 use Rattle.data_types.specs.declared.row_fault.RowFault.{RowFault}
-use Rattle.layout_rules.specs.Values.{rows_of}
+use Rattle.layout_rules.specs.promise.Values.{rows_of}
 use Rattle.stream_face.specs.Lawful.{LawfulTables}
-use Rattle.tree_model.specs.Tree.{IsLive, Released}
+use Rattle.tree_model.specs.promise.TreeParts.{IsLive}
+use Rattle.tree_model.specs.promise.TreeData.{Released}
 use Rattle.data_types.specs.KindTrees.{TypedOk}
-use Rattle.data_types.specs.TypedView.{typed_of}
+use Rattle.data_types.specs.promise.TypedView.{typed_of}
 use Rattle.stream_face.specs.Calls.{IsCode, IsRowFault, Tells}
 use Rattle.stream_face.specs.Codes.{enomem}
 use Rattle.stream_face.specs.Meaning.{meaning, raw_link}

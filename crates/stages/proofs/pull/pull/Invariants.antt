@@ -1,7 +1,7 @@
 use Rattle.std.proofs.Common.{◌≡◌, List, length}
-use Rattle.data_types.specs.Table.{Column, Row}
-use Rattle.tree_model.specs.Tree.{Released}
-use Rattle.raw_array.specs.Members.{ArrayTree}
+use Rattle.data_types.specs.promise.Table.{Column, Row}
+use Rattle.tree_model.specs.promise.TreeData.{Released}
+use Rattle.raw_array.specs.promise.Members.{ArrayTree}
 use Rattle.stream_face.specs.Lawful.{LawfulTables}
 use Rattle.stream_face.specs.Meaning.{meaning, raw_link}
 use Rattle.stream_face.specs.Streams.{IsFresh}

@@ -1,9 +1,9 @@
 use Rattle.std.proofs.Common.{arith, ◌≡◌, ◌∙◌, ◌+◌, List, [], ◌∷◌, map, Option, None, sym, ap, subst, true≢false}
 use Rattle.data_types.specs.ColumnView.{column_of}
-use Rattle.data_types.specs.Table.{Column, Row}
-use Rattle.tree_model.specs.Tree.{IsLive}
-use Rattle.raw_array.specs.Members.{ArrayTree, Cost}
-use Rattle.data_types.specs.TypedView.{typed_of}
+use Rattle.data_types.specs.promise.Table.{Column, Row}
+use Rattle.tree_model.specs.promise.TreeParts.{IsLive}
+use Rattle.raw_array.specs.promise.Members.{ArrayTree, Cost}
+use Rattle.data_types.specs.promise.TypedView.{typed_of}
 use Rattle.stages.specs.Steps.{Finishes, IsNext, Pushes, cost_given}
 use Rattle.stages.proofs.Turning.{is-live, turns-some}
 use Rattle.stages.proofs.pull.turn.Goals as goal

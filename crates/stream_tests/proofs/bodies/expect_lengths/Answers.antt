@@ -1,8 +1,8 @@
 use Rattle.std.proofs.Common.{List, [], sym, subst, arith}
 use Rattle.col_build.specs.Holding.{HoldsSome}
 use Rattle.col_build.specs.declared.builder.Builder.{Builder}
-use Rattle.data_types.specs.Table.{Column, Columns, Dict, Flat, Kind, no_members}
-use Rattle.data_types.specs.Value.{Value}
+use Rattle.data_types.specs.promise.Table.{Column, Columns, Dict, Flat, Kind, no_members}
+use Rattle.data_types.specs.promise.Value.{Value}
 use Rattle.csv_read.specs.Body.{HoldsKind}
 use Rattle.stream_tests.proofs.bodies.expect_lengths.Goals as goal
 

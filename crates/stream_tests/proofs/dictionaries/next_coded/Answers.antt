@@ -2,16 +2,17 @@ use Rattle.std.specs.Prelude.{◌≢◌, All}
 use Rattle.std.proofs.Common.{arith, ◌≡◌, ◌∙◌, ◌<◌, ℕ, List, [], ◌∷◌, length, get_or, sym, ap, subst}
 use Rattle.std.proofs.lemmas.List.{length-map}
 use Rattle.data_types.specs.ColumnForms.{AreColumnKinds}
-use Rattle.data_types.specs.Parts.{column_values}
-use Rattle.data_types.specs.Table.{Column, Dict, Flat, Kind, Row}
-use Rattle.data_types.specs.Value.{Null, Value}
+use Rattle.data_types.specs.promise.Parts.{column_values}
+use Rattle.data_types.specs.promise.Table.{Column, Dict, Flat, Kind, Row}
+use Rattle.data_types.specs.promise.Value.{Null, Value}
 use Rattle.data_types.specs.declared.kind.DataType.{DataType}
 use Rattle.tree_model.specs.Tree.{dictionary_at}
-use Rattle.raw_array.specs.Members.{ArrayTree}
-use Rattle.data_types.specs.ColumnKinds.{type_of_kind}
-use Rattle.layout_rules.specs.Values.{values_of}
-use Rattle.stage_model.specs.Dictionary.{Dictionary}
-use Rattle.stage_model.specs.Typing.{column_at, no_column}
+use Rattle.raw_array.specs.promise.Members.{ArrayTree}
+use Rattle.data_types.specs.promise.ColumnKinds.{type_of_kind}
+use Rattle.layout_rules.specs.promise.Values.{values_of}
+use Rattle.stage_model.specs.promise.Dictionary.{Dictionary}
+use Rattle.stage_model.specs.promise.Typing.{no_column}
+use Rattle.stage_model.specs.Typing.{column_at}
 use Rattle.stream_face.proofs.Next.{same}
 use Rattle.stream_face.specs.Lawful.{AreItems, DictsHaveBytes, LawfulColumns, LawfulTables}
 use Rattle.dict_stage.specs.Indices.{HasColumn, recoded_tree}

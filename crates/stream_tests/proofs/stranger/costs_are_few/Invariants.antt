@@ -1,5 +1,5 @@
 use Rattle.std.proofs.Common.{◌≡◌, ◌-◌, ◌^◌, min, take}
-use Rattle.tree_model.specs.Tree.{trees}
+use Rattle.tree_model.specs.promise.TreeData.{trees}
 use Rattle.raw_array.specs.Members.{cost_of_all}
 use Rattle.stream_tests.proofs.stranger.costs_are_few.Given as goal
 

@@ -1,9 +1,9 @@
 use Rattle.std.proofs.Common.{◌≡◌, Result, Ok, map, subst, sym}
 use Rattle.data_types.specs.ColumnView.{column_of}
-use Rattle.data_types.specs.KindTrees.{KindTree}
-use Rattle.schema_check.specs.SchemaAnswers.{FirstFault}
-use Rattle.schema_check.specs.Schemas.{TypedOf}
-use Rattle.data_types.specs.ColumnKinds.{type_of_columns}
+use Rattle.data_types.specs.promise.KindTrees.{KindTree}
+use Rattle.schema_check.specs.promise.SchemaAnswers.{FirstFault}
+use Rattle.schema_check.specs.promise.Schemas.{TypedOf}
+use Rattle.data_types.specs.promise.ColumnKinds.{type_of_columns}
 use Rattle.stream_tests.proofs.texts.typed_columns.Goals as goal
 
 same-kinds : (a b : KindTree) → ◌≡◌ {A = Result KindTree FirstFault} (Ok a) (Ok b) → b ≡ a

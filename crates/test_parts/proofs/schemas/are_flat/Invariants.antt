@@ -1,5 +1,6 @@
 use Rattle.std.proofs.Common.{◌≤◌, take}
-use Rattle.tree_model.specs.Tree.{trees, depth_of_all}
+use Rattle.tree_model.specs.promise.TreeData.{trees}
+use Rattle.tree_model.specs.Tree.{depth_of_all}
 use Rattle.test_parts.proofs.schemas.are_flat.Given as goal
 
 abbrev pub invariant-loop-child : goal.invariant-loop-child

@@ -2,7 +2,7 @@ use Rattle.std.proofs.Common.{◌≡◌, ◌∙◌, ◌++◌, [], ◌∷◌, Lis
 use Rattle.std.proofs.lemmas.Bool.{cases_eq}
 use Rattle.std.proofs.lemmas.List.{append_assoc, append-nil, length-append, length-replicate, replicate-append-replicate}
 use Rattle.std.specs.Prelude.{None}
-use Rattle.data_types.specs.Value.{Value}
+use Rattle.data_types.specs.promise.Value.{Value}
 use Rattle.col_build.specs.Encoding.{push_fault}
 use Rattle.col_build.specs.Holding.{Holds}
 use Rattle.col_build.specs.Items.{value_of}

@@ -1,14 +1,14 @@
 use Rattle.std.proofs.Common.{arith, ◌≡◌, ◌∙◌, ◌<◌, ◌++◌, ◌∷◌, [], ℕ, List, length, get_or, below_more, sym, ap, subst}
 use Rattle.std.proofs.lemmas.List.{get_or_append_left}
 use Rattle.std.proofs.Math.Seq.{get_or-append_seam}
-use Rattle.raw_array.specs.Members.{ArrayTree}
-use Rattle.data_types.specs.KindTrees.{KindTree}
-use Rattle.data_types.specs.TypedView.{typed_of}
-use Rattle.layout_rules.specs.Values.{rows_of, tree_items}
+use Rattle.raw_array.specs.promise.Members.{ArrayTree}
+use Rattle.data_types.specs.promise.KindTrees.{KindTree}
+use Rattle.data_types.specs.promise.TypedView.{typed_of}
+use Rattle.layout_rules.specs.promise.Values.{rows_of, tree_items}
 use Rattle.arr_import.specs.Cols.{window_of}
 use Rattle.arr_import.specs.Window.{Window, child_window, whole}
 use Rattle.column_fill.proofs.Counts.{count-is}
-use Rattle.stage_model.specs.Stages.{numbers_at}
+use Rattle.stage_model.specs.promise.Stages.{numbers_at}
 use Rattle.total_stage.specs.Sums.{rows_between}
 use Rattle.total_stage.specs.Totals.{AreTotals}
 use Rattle.total_stage.specs.declared.numbers.Totals.{Totals}

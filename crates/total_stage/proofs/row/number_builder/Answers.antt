@@ -2,8 +2,8 @@ use Rattle.std.proofs.Common.{◌∷◌, [], sym, subst}
 use Rattle.col_build.specs.Holding.{Holds}
 use Rattle.csv_read.specs.Body.{HoldsKind}
 use Rattle.data_types.specs.ColumnView.{column_of}
-use Rattle.data_types.specs.Table.{Kind}
-use Rattle.data_types.specs.Value.{Value}
+use Rattle.data_types.specs.promise.Table.{Kind}
+use Rattle.data_types.specs.promise.Value.{Value}
 use Rattle.data_types.specs.declared.kind.DataType.{DataType}
 use Rattle.total_stage.specs.Rows.{IsFlat, Takes}
 use Rattle.total_stage.specs.Totals.{number_value}

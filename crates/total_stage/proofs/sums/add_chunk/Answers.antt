@@ -1,8 +1,8 @@
 use Rattle.std.proofs.Common.{List, subst, sym}
 use Rattle.std.specs.Prelude.{Vec}
 use Rattle.std.specs.Global.{Global}
-use Rattle.data_types.specs.TypedView.{typed_of}
-use Rattle.layout_rules.specs.Values.{rows_of}
+use Rattle.data_types.specs.promise.TypedView.{typed_of}
+use Rattle.layout_rules.specs.promise.Values.{rows_of}
 use Rattle.total_stage.specs.Sums.{AreParts}
 use Rattle.total_stage.specs.declared.numbers.Totals.{Totals}
 use Rattle.total_stage.proofs.sums.add_chunk.Goals as goal

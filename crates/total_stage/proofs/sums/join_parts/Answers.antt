@@ -1,6 +1,6 @@
 use Rattle.std.proofs.Common.{arith, ◌≡◌, ◌∙◌, ◌<◌, ◌+◌, ◌++◌, List, length, sym, ap, subst}
 use Rattle.std.proofs.lemmas.List.{append-nil}
-use Rattle.data_types.specs.Table.{Row}
+use Rattle.data_types.specs.promise.Table.{Row}
 use Rattle.array_laws.specs.Pieces.{border, joined_pieces}
 use Rattle.total_stage.specs.Sums.{AreSums, rows_between}
 use Rattle.total_stage.specs.declared.numbers.Totals.{Totals}

@@ -1,5 +1,5 @@
 use Rattle.std.proofs.Common.{ℕ, ◌++◌, List, length}
-use Rattle.data_types.specs.Table.{Row}
+use Rattle.data_types.specs.promise.Table.{Row}
 use Rattle.array_laws.specs.Pieces.{border, joined_pieces}
 use Rattle.total_stage.specs.Sums.{AreParts, AreSums}
 use Rattle.total_stage.proofs.sums.join_parts.Given as goal

@@ -1,5 +1,5 @@
 use Rattle.std.proofs.Common.{ℕ, List}
-use Rattle.data_types.specs.Table.{Row}
+use Rattle.data_types.specs.promise.Table.{Row}
 use Rattle.total_stage.specs.Sums.{AreSums}
 use Rattle.total_stage.proofs.Joining.{AreJoined}
 use Rattle.total_stage.proofs.sums.join_sums.Given as goal

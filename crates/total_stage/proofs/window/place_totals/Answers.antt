@@ -1,6 +1,6 @@
 use Rattle.std.proofs.Common.{arith, rules, to_z, of_z, ◌-◌, ◌+◌, ◌<◌, ◌++◌, ◌∷◌, [], ℤ, List, sym, subst, ◌≡◌, ◌≢◌, ◌∙◌}
 use Rattle.std.specs.Int.{w128}
-use Rattle.data_types.specs.Value.{Value, Whole}
+use Rattle.data_types.specs.promise.Value.{Value, Whole}
 use Rattle.total_stage.specs.Totals.{AreTotals, IsSmall, IsSmallItem, numbers_in}
 use Rattle.total_stage.proofs.Windows.{few-numbers, number-more, number-none}
 use Rattle.total_stage.proofs.window.place_totals.Goals as goal

@@ -1,5 +1,5 @@
 use Rattle.std.proofs.Common.{sym}
-use Rattle.data_types.specs.TypedView.{typed_of}
+use Rattle.data_types.specs.promise.TypedView.{typed_of}
 use Rattle.tree_check.proofs.Coming.{array-refused, report-comes, schema-refused}
 use Rattle.tree_check.proofs.check.check_trees.Goals as goal
 

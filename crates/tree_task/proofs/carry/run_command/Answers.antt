@@ -1,9 +1,11 @@
 use Rattle.std.proofs.Common.{◌≤◌, ◌∙◌, Some, length, ap, refl, subst, sym, take}
 use Rattle.std.specs.Io.KnownBytes.{Appends}
-use Rattle.edge_io.specs.Edge.{Rose, taken_by}
-use Rattle.tree_task.specs.Answer.{AreBytes, Text, input_limit}
-use Rattle.tree_task.specs.Faults.{cause_of, is_write_fault}
-use Rattle.tree_task.specs.Over.{RanOver}
+use Rattle.edge_io.specs.promise.Edge.{Rose}
+use Rattle.edge_io.specs.Edge.{taken_by}
+use Rattle.tree_task.specs.promise.Answer.{AreBytes, input_limit}
+use Rattle.tree_task.specs.promise.TextOrFault.{Text}
+use Rattle.tree_task.specs.promise.Faults.{cause_of, is_write_fault}
+use Rattle.tree_task.specs.promise.Over.{RanOver}
 use Rattle.tree_task.specs.declared.fault.TreeRunFault.TheVariants as run
 use Rattle.tree_task.proofs.Carried.{failed-at-write, failed-not_reading, failed-not_words, failed-read, read-of}
 use Rattle.tree_task.proofs.Carried.{at-err, done-over, failed-over, keeps-same, no-ok, no-write, not_reading-of, not_words-of, not_writing-of}

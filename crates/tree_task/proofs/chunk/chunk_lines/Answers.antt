@@ -1,7 +1,7 @@
 use Rattle.std.proofs.Common.{subst}
-use Rattle.data_types.specs.TypedView.{typed_of}
-use Rattle.data_types.specs.Ways.{steps_of}
-use Rattle.layout_rules.specs.Walk.{ChunkOk, LayoutOk}
+use Rattle.data_types.specs.promise.TypedView.{typed_of}
+use Rattle.data_types.specs.promise.Ways.{steps_of}
+use Rattle.layout_rules.specs.promise.Walk.{ChunkOk, LayoutOk}
 use Rattle.schema_check.specs.SchemaAnswers.{IsFirstFault}
 use Rattle.tree_task.proofs.NewRows.{made-text, no-fault, same-kinds}
 use Rattle.tree_task.proofs.chunk.chunk_lines.Goals as goal

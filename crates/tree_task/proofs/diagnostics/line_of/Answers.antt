@@ -1,5 +1,5 @@
 use Rattle.std.proofs.Common.{Some, ap, sym}
-use Rattle.tree_task.specs.Diagnostics.{status_line}
+use Rattle.tree_task.specs.promise.Diagnostics.{status_line}
 use Rattle.tree_task.proofs.diagnostics.line_of.Goals as goal
 
 pub returns-in-Words : goal.returns-in-Words

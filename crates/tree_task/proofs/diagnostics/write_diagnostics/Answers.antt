@@ -1,5 +1,5 @@
 use Rattle.std.proofs.Common.{◌∙◌, ap, subst, sym}
-use Rattle.tree_task.specs.Diagnostics.{Took, status_line}
+use Rattle.tree_task.specs.promise.Diagnostics.{Took, status_line}
 use Rattle.tree_task.proofs.Lines.{took}
 use Rattle.tree_task.proofs.diagnostics.write_diagnostics.Goals as goal
 

@@ -1,8 +1,8 @@
 use Rattle.std.proofs.Common.{rules, ◌<◌, length, ap, arith}
 use Rattle.arr_import.specs.Cols.{window_of}
-use Rattle.data_types.specs.KindTrees.{KindTree}
+use Rattle.data_types.specs.promise.KindTrees.{KindTree}
 use Rattle.data_types.specs.declared.typed.Typed.{out-Typed}
-use Rattle.tree_model.specs.Tree.{children_of}
+use Rattle.tree_model.specs.promise.TreeParts.{children_of}
 use Rattle.list_cols.proofs.Kids.{kids-are, many-kids}
 use Rattle.tree_task.proofs.exploded_length.has_long_column.Goals as goal
 

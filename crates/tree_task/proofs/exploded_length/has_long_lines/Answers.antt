@@ -1,11 +1,11 @@
 use Rattle.std.proofs.Common.{◌≡◌, ◌∙◌, ◌+◌, ℕ, get_or, ap, sym, arith}
 use Rattle.arr_import.specs.Cols.{window_of}
 use Rattle.arr_import.specs.Window.{Window, item_at, whole}
-use Rattle.data_types.specs.Value.{Null}
-use Rattle.data_types.specs.KindTrees.{KindTree}
-use Rattle.data_types.specs.TypedView.{typed_of}
-use Rattle.layout_rules.specs.Values.{row_items}
-use Rattle.raw_array.specs.Members.{ArrayTree}
+use Rattle.data_types.specs.promise.Value.{Null}
+use Rattle.data_types.specs.promise.KindTrees.{KindTree}
+use Rattle.data_types.specs.promise.TypedView.{typed_of}
+use Rattle.layout_rules.specs.promise.Values.{row_items}
+use Rattle.raw_array.specs.promise.Members.{ArrayTree}
 use Rattle.list_cols.specs.Spreading.{list_at}
 use Rattle.tree_task.proofs.exploded_length.has_long_lines.Goals as goal
 

@@ -1,12 +1,12 @@
 use Rattle.std.proofs.Common.{◌≡◌, ◌∙◌, ◌*◌, ◌+◌, ◌<◌, ◌≤◌, ℕ, length, ap, arith, mul-le-mul, subst, sym}
 use Rattle.arr_import.proofs.Reading.{children-count}
-use Rattle.data_types.specs.TypedView.{typed_of}
+use Rattle.data_types.specs.promise.TypedView.{typed_of}
 use Rattle.data_types.specs.declared.typed.Typed.{out-Typed}
-use Rattle.layout_rules.specs.Values.{rows_of}
-use Rattle.list_cols.specs.Nested.{Explode}
+use Rattle.layout_rules.specs.promise.Values.{rows_of}
+use Rattle.list_cols.specs.promise.Nested.{Explode}
 use Rattle.list_cols.proofs.Chunks.{chunk-is, rows-wide}
 use Rattle.list_cols.proofs.Kids.{level-live}
-use Rattle.tree_model.specs.Tree.{children_of}
+use Rattle.tree_model.specs.promise.TreeParts.{children_of}
 use Rattle.tree_task.proofs.NewLines.{row_lines, wide-lines}
 use Rattle.tree_task.proofs.exploded_length.is_exploded_too_long.Goals as goal
 

@@ -3,8 +3,8 @@ use Rattle.std.proofs.lemmas.Int.{ints}
 use Rattle.arr_import.specs.Cols.{window_of}
 use Rattle.arr_import.specs.Window.{item_at}
 use Rattle.arr_export.proofs.Each.{length-each}
-use Rattle.layout_rules.specs.Layout.{natural}
-use Rattle.list_cols.specs.Nested.{items_in}
+use Rattle.layout_rules.specs.promise.Layout.{natural}
+use Rattle.list_cols.specs.promise.Nested.{items_in}
 use Rattle.list_cols.proofs.ListItems.{window-items}
 use Rattle.tree_task.proofs.exploded_length.list_items.Goals as goal
 

@@ -1,12 +1,12 @@
 use Rattle.std.proofs.Common.{◌≡◌, ◌∙◌, ◌+◌, ◌<◌, ◌≤◌, ℕ, length, get_or, ap, arith, subst}
 use Rattle.arr_import.specs.Cols.{window_of}
-use Rattle.data_types.specs.TypedView.{typed_of}
-use Rattle.data_types.specs.Value.{Null}
-use Rattle.data_types.specs.ValueTexts.{value_text}
-use Rattle.layout_rules.specs.Values.{each, row_items}
-use Rattle.list_cols.specs.Nested.{Explode, items_in}
+use Rattle.data_types.specs.promise.TypedView.{typed_of}
+use Rattle.data_types.specs.promise.Value.{Null}
+use Rattle.data_types.specs.promise.ValueTexts.{value_text}
+use Rattle.layout_rules.specs.promise.Values.{each, row_items}
+use Rattle.list_cols.specs.promise.Nested.{Explode, items_in}
 use Rattle.value_text.specs.Lengths.{capped}
-use Rattle.tree_task.specs.ForeignAnswer.{row_value}
+use Rattle.tree_task.specs.promise.ForeignAnswer.{row_value}
 use Rattle.tree_task.specs.NewLengths.{most_lines}
 use Rattle.tree_task.proofs.NewLines.{least-lines, more-rows, row_lines}
 use Rattle.tree_task.proofs.exploded_length.rows_length.Goals as goal

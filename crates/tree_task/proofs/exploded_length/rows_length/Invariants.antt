@@ -1,7 +1,7 @@
 use Rattle.std.proofs.Common.{◌+◌, ◌≤◌, length}
-use Rattle.data_types.specs.TypedView.{typed_of}
-use Rattle.layout_rules.specs.Values.{each, row_items}
-use Rattle.list_cols.specs.Nested.{Explode}
+use Rattle.data_types.specs.promise.TypedView.{typed_of}
+use Rattle.layout_rules.specs.promise.Values.{each, row_items}
+use Rattle.list_cols.specs.promise.Nested.{Explode}
 use Rattle.tree_task.proofs.NewLines.{row_lines}
 use Rattle.tree_task.proofs.exploded_length.rows_length.Given as goal
 

@@ -1,12 +1,12 @@
 use Rattle.std.proofs.Common.{◌≡◌, length, subst, sym}
-use Rattle.layout_rules.specs.Values.{tree_items, value_at}
-use Rattle.raw_array.specs.Members.{ArrayTree}
+use Rattle.layout_rules.specs.promise.Values.{tree_items, value_at}
+use Rattle.raw_array.specs.promise.Members.{ArrayTree}
 use Rattle.run_ends.specs.RunAnswers.{runs_of}
 use Rattle.run_ends.specs.RunCols.{array_in, kinds_in}
-use Rattle.run_ends.specs.Runs.{RunTree, run_values}
-use Rattle.tree_model.specs.Tree.{child_at}
+use Rattle.run_ends.specs.promise.Runs.{RunTree, run_values}
+use Rattle.tree_model.specs.promise.TreeParts.{child_at}
 use Rattle.value_text.specs.Lengths.{Tells, capped}
-use Rattle.data_types.specs.ValueTexts.{lines_text}
+use Rattle.data_types.specs.promise.ValueTexts.{lines_text}
 use Rattle.tree_task.proofs.flat.flat_length.Goals as goal
 
 pub text_length-requires : goal.text_length-requires

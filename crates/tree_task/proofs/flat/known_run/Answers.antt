@@ -1,8 +1,8 @@
 use Rattle.std.proofs.Common.{◌≡◌, ◌<◌, ◌^◌, ◌∙◌, ap, arith, pos, sym, to_z, w64}
 use Rattle.std.proofs.lemmas.Int.{to_z_pos}
-use Rattle.layout_rules.specs.Layout.{natural}
+use Rattle.layout_rules.specs.promise.Layout.{natural}
 use Rattle.run_ends.specs.RunCols.{array_in, kinds_in}
-use Rattle.run_ends.specs.Runs.{run_of}
+use Rattle.run_ends.specs.promise.Runs.{run_of}
 use Rattle.tree_task.proofs.flat.known_run.Goals as goal
 
 pub overflow_cast-run : goal.overflow_cast-run

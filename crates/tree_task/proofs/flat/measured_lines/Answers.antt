@@ -1,9 +1,9 @@
 use Rattle.std.proofs.Common.{◌≡◌, subst}
 use Rattle.std.specs.Prelude.{IfOk}
-use Rattle.raw_array.specs.Members.{ArrayTree}
+use Rattle.raw_array.specs.promise.Members.{ArrayTree}
 use Rattle.run_ends.specs.RunCols.{kinds_in}
-use Rattle.run_ends.specs.Runs.{RunTree, run_values}
-use Rattle.data_types.specs.ValueTexts.{lines_text}
+use Rattle.run_ends.specs.promise.Runs.{RunTree, run_values}
+use Rattle.data_types.specs.promise.ValueTexts.{lines_text}
 use Rattle.tree_task.proofs.flat.measured_lines.Goals as goal
 
 pub returns : goal.returns

@@ -2,10 +2,10 @@ use Rattle.std.proofs.Common.{◌≡◌, ◌∙◌, ◌+◌, ◌++◌, [], ◌�
 use Rattle.arr_import.specs.Cols.{window_of}
 use Rattle.arr_import.specs.Window.{item_at}
 use Rattle.run_ends.specs.RunCols.{array_in, kinds_in}
-use Rattle.run_ends.specs.Runs.{run_of, run_value}
-use Rattle.tree_model.specs.Tree.{child_at}
-use Rattle.layout_rules.specs.Values.{value_at}
-use Rattle.data_types.specs.ValueTexts.{value_text}
+use Rattle.run_ends.specs.promise.Runs.{run_of, run_value}
+use Rattle.tree_model.specs.promise.TreeParts.{child_at}
+use Rattle.layout_rules.specs.promise.Values.{value_at}
+use Rattle.data_types.specs.promise.ValueTexts.{value_text}
 use Rattle.value_text.proofs.Parts.{both-appended}
 use Rattle.tree_task.proofs.flat.push_item.Goals as goal
 

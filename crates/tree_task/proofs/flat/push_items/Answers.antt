@@ -1,9 +1,9 @@
 use Rattle.std.proofs.Common.{◌≡◌, ◌+◌, ◌-◌, ap, arith, sym, ◌∙◌}
 use Rattle.std.specs.List.{flat_map}
-use Rattle.layout_rules.specs.Values.{each}
+use Rattle.layout_rules.specs.promise.Values.{each}
 use Rattle.run_ends.specs.RunCols.{array_in, kinds_in}
-use Rattle.run_ends.specs.Runs.{run_value}
-use Rattle.data_types.specs.ValueTexts.{value_line}
+use Rattle.run_ends.specs.promise.Runs.{run_value}
+use Rattle.data_types.specs.promise.ValueTexts.{value_line}
 use Rattle.value_text.proofs.Parts.{appended}
 use Rattle.tree_task.proofs.Running.{lines-joined, reaches-end}
 use Rattle.tree_task.proofs.flat.push_items.Goals as goal

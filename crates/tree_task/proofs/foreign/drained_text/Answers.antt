@@ -1,14 +1,14 @@
 use Rattle.std.proofs.Common.{◌∙◌, ◌↔◌, IsTrue, is_none, ap, inr, map, subst, sym, Err, Some}
 use Rattle.foreign_array.specs.Drained.{Drained}
 use Rattle.foreign_array.specs.Kept.{tree_in}
-use Rattle.data_types.specs.TypedView.{typed_of}
-use Rattle.layout_rules.specs.Values.{rows_of}
-use Rattle.layout_rules.specs.Walk.{LayoutOk, first_fault}
-use Rattle.data_types.specs.ValueTexts.{lines_text}
-use Rattle.tree_task.specs.ForeignAnswer.{chunk_unless}
+use Rattle.data_types.specs.promise.TypedView.{typed_of}
+use Rattle.layout_rules.specs.promise.Values.{rows_of}
+use Rattle.layout_rules.specs.promise.Walk.{LayoutOk, first_fault}
+use Rattle.data_types.specs.promise.ValueTexts.{lines_text}
+use Rattle.tree_task.specs.promise.ForeignAnswer.{chunk_unless}
 use Rattle.tree_task.specs.Gathered.{tables_in}
 use Rattle.tree_task.specs.Refusals.{fault_of_check}
-use Rattle.tree_task.specs.TextOrFault.{Fault, Text}
+use Rattle.tree_task.specs.promise.TextOrFault.{Fault, Text}
 use Rattle.tree_task.proofs.ForeignRows.{chunk-ok, chunk-values, drained-passed, drained-refused, drained-seen, live-kinds, one-gathered}
 use Rattle.tree_task.proofs.foreign.drained_text.Goals as goal
 

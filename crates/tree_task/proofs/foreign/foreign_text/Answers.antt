@@ -1,6 +1,6 @@
 use Rattle.std.proofs.Common.{refl}
-use Rattle.data_types.specs.TypedView.{typed_of}
-use Rattle.tree_task.specs.ForeignAnswer.{chunk_of_kinds}
+use Rattle.data_types.specs.promise.TypedView.{typed_of}
+use Rattle.tree_task.specs.promise.ForeignAnswer.{chunk_of_kinds}
 use Rattle.tree_task.proofs.Coming.{kinds-answer, kinds-refused, schema-refused}
 use Rattle.tree_task.proofs.foreign.foreign_text.Goals as goal
 

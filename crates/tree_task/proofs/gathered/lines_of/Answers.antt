@@ -1,8 +1,8 @@
 use Rattle.std.proofs.Common.{◌∙◌, ap, map, sym}
-use Rattle.data_types.specs.TypedView.{typed_of}
-use Rattle.layout_rules.specs.Values.{rows_of}
-use Rattle.data_types.specs.ValueTexts.{lines_text}
-use Rattle.tree_task.specs.ForeignAnswer.{row_value}
+use Rattle.data_types.specs.promise.TypedView.{typed_of}
+use Rattle.layout_rules.specs.promise.Values.{rows_of}
+use Rattle.data_types.specs.promise.ValueTexts.{lines_text}
+use Rattle.tree_task.specs.promise.ForeignAnswer.{row_value}
 use Rattle.tree_task.proofs.ForeignRows.{chunk-values, live-kinds}
 use Rattle.tree_task.proofs.gathered.lines_of.Goals as goal
 

@@ -1,8 +1,8 @@
 use Rattle.std.proofs.Common.{◌≡◌, ◌∙◌, Some, length, ap, arith, sym}
 use Rattle.arr_import.proofs.Reading.{children-count}
-use Rattle.data_types.specs.TypedView.{typed_of}
+use Rattle.data_types.specs.promise.TypedView.{typed_of}
 use Rattle.data_types.specs.declared.typed.Typed.{out-Typed}
-use Rattle.tree_model.specs.Tree.{children_of}
+use Rattle.tree_model.specs.promise.TreeParts.{children_of}
 use Rattle.tree_task.proofs.NewRows.{column-many, column-none, column-there}
 use Rattle.tree_task.specs.declared.fault.TreeRunFault.TheVariants as run
 use Rattle.tree_task.proofs.lists.column_fault.Goals as goal

@@ -1,5 +1,5 @@
 use Rattle.std.proofs.Common.{◌∙◌, sym}
-use Rattle.data_types.specs.TypedView.{typed_of}
+use Rattle.data_types.specs.promise.TypedView.{typed_of}
 use Rattle.tree_task.proofs.NewRows.{column-refused}
 use Rattle.tree_task.proofs.lists.column_kinds.Goals as goal
 

@@ -1,5 +1,5 @@
-use Rattle.data_types.specs.TypedView.{typed_of}
-use Rattle.tree_task.specs.ListsAnswer.{exploded}
+use Rattle.data_types.specs.promise.TypedView.{typed_of}
+use Rattle.tree_task.specs.promise.ListsAnswer.{exploded}
 use Rattle.tree_task.proofs.Chunks.{said-one}
 use Rattle.tree_task.proofs.NewRows.{both-made, rows-fault, rows-text}
 use Rattle.tree_task.proofs.lists.explode_text.Goals as goal

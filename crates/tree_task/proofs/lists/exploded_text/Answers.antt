@@ -1,7 +1,7 @@
-use Rattle.data_types.specs.TypedView.{typed_of}
-use Rattle.layout_rules.specs.Values.{rows_of}
-use Rattle.list_cols.specs.Faults.{explode_fault}
-use Rattle.list_cols.specs.Nested.{Explode}
+use Rattle.data_types.specs.promise.TypedView.{typed_of}
+use Rattle.layout_rules.specs.promise.Values.{rows_of}
+use Rattle.list_cols.specs.promise.Faults.{explode_fault}
+use Rattle.list_cols.specs.promise.Nested.{Explode}
 use Rattle.tree_task.proofs.NewRows.{new-refused}
 use Rattle.tree_task.proofs.lists.exploded_text.Goals as goal
 

@@ -1,5 +1,5 @@
-use Rattle.data_types.specs.TypedView.{typed_of}
-use Rattle.tree_task.specs.ListsAnswer.{nested}
+use Rattle.data_types.specs.promise.TypedView.{typed_of}
+use Rattle.tree_task.specs.promise.ListsAnswer.{nested}
 use Rattle.tree_task.proofs.Chunks.{said-one}
 use Rattle.tree_task.proofs.NewRows.{both-made, rows-fault, rows-text}
 use Rattle.tree_task.proofs.nested.nest_text.Goals as goal

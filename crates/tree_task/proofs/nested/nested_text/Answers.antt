@@ -1,9 +1,9 @@
 use Rattle.std.proofs.Common.{length}
-use Rattle.data_types.specs.TypedView.{typed_of}
-use Rattle.layout_rules.specs.Values.{rows_of}
-use Rattle.list_cols.specs.NestFaults.{nest_fault}
-use Rattle.list_cols.specs.Nested.{Nest}
-use Rattle.tree_model.specs.Tree.{children_of}
+use Rattle.data_types.specs.promise.TypedView.{typed_of}
+use Rattle.layout_rules.specs.promise.Values.{rows_of}
+use Rattle.list_cols.specs.promise.NestFaults.{nest_fault}
+use Rattle.list_cols.specs.promise.Nested.{Nest}
+use Rattle.tree_model.specs.promise.TreeParts.{children_of}
 use Rattle.tree_task.proofs.NewRows.{new-refused}
 use Rattle.tree_task.proofs.nested.nested_text.Goals as goal
 

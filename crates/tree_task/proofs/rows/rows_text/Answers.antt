@@ -1,6 +1,6 @@
 use Rattle.std.proofs.Common.{refl, sym}
-use Rattle.data_types.specs.TypedView.{typed_of}
-use Rattle.tree_task.specs.RowsAnswer.{rows_of_kinds}
+use Rattle.data_types.specs.promise.TypedView.{typed_of}
+use Rattle.tree_task.specs.promise.RowsAnswer.{rows_of_kinds}
 use Rattle.tree_task.proofs.Coming.{array-refused, rows-come, schema-refused}
 use Rattle.tree_task.proofs.rows.rows_text.Goals as goal
 

@@ -1,7 +1,7 @@
 use Rattle.std.proofs.Common.{◌≡◌, ◌⊎◌, IfErr, IfOk, refl, subst, sym}
-use Rattle.data_types.specs.TypedView.{typed_of}
-use Rattle.tree_task.specs.RunsAnswer.{runs_of_array, runs_of_kinds}
-use Rattle.tree_task.specs.TextOrFault.{Fault, Text}
+use Rattle.data_types.specs.promise.TypedView.{typed_of}
+use Rattle.tree_task.specs.promise.RunsAnswer.{runs_of_array, runs_of_kinds}
+use Rattle.tree_task.specs.promise.TextOrFault.{Fault, Text}
 use Rattle.tree_task.specs.declared.fault.TreeRunFault.TheVariants as run
 use Rattle.tree_task.proofs.Coming.{kinds-answer, kinds-refused, schema-refused}
 use Rattle.tree_task.proofs.Running.{column-refused}

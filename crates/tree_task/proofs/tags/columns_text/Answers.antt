@@ -1,8 +1,9 @@
 use Rattle.std.proofs.Common.{length, sym}
-use Rattle.data_types.specs.TypedView.{typed_of}
-use Rattle.layout_rules.specs.Values.{tree_items}
-use Rattle.tree_model.specs.Tree.{children_of}
-use Rattle.union_cols.specs.Tags.{tag_fault, tagged_kinds}
+use Rattle.data_types.specs.promise.TypedView.{typed_of}
+use Rattle.layout_rules.specs.promise.Values.{tree_items}
+use Rattle.tree_model.specs.promise.TreeParts.{children_of}
+use Rattle.union_cols.specs.promise.Tags.{tag_fault}
+use Rattle.union_cols.specs.Tags.{tagged_kinds}
 use Rattle.tree_task.proofs.Tagging.{columns-refused, made-refused, made-text}
 use Rattle.tree_task.proofs.tags.columns_text.Goals as goal
 

@@ -1,10 +1,11 @@
 use Rattle.std.proofs.Common.{rules, ◌<◌, length, arith, subst, sym}
-use Rattle.data_types.specs.KindTrees.{KindTree}
-use Rattle.data_types.specs.TypedView.{kids_of, typed_of}
+use Rattle.data_types.specs.promise.KindTrees.{KindTree}
+use Rattle.data_types.specs.promise.TypedView.{typed_of}
+use Rattle.data_types.specs.TypedView.{kids_of}
 use Rattle.data_types.specs.declared.typed.Typed.{out-Typed}
-use Rattle.layout_rules.specs.Walk.{LayoutOk}
-use Rattle.raw_array.specs.Members.{ArrayTree}
-use Rattle.tree_model.specs.Tree.{child_at}
+use Rattle.layout_rules.specs.promise.Walk.{LayoutOk}
+use Rattle.raw_array.specs.promise.Members.{ArrayTree}
+use Rattle.tree_model.specs.promise.TreeParts.{child_at}
 use Rattle.list_cols.proofs.Kids.{kid-is, kid-ok, many-kids}
 use Rattle.tree_task.proofs.tags.least_line.Goals as goal
 

@@ -1,5 +1,5 @@
-use Rattle.data_types.specs.TypedView.{typed_of}
-use Rattle.tree_task.specs.TagAnswer.{tags_of_columns}
+use Rattle.data_types.specs.promise.TypedView.{typed_of}
+use Rattle.tree_task.specs.promise.TagAnswer.{tags_of_columns}
 use Rattle.tree_task.proofs.Chunks.{chunk-fault, chunk-text, said-one}
 use Rattle.tree_task.proofs.tags.tag_text.Goals as goal
 

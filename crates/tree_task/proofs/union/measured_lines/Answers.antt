@@ -1,9 +1,9 @@
 use Rattle.std.proofs.Common.{◌≡◌, subst}
 use Rattle.std.specs.Prelude.{IfOk}
-use Rattle.raw_array.specs.Members.{ArrayTree}
+use Rattle.raw_array.specs.promise.Members.{ArrayTree}
 use Rattle.union_cols.specs.UnionCols.{kinds_in}
-use Rattle.union_cols.specs.Unions.{UnionTree, union_items}
-use Rattle.tree_task.specs.UnionAnswer.{items_text}
+use Rattle.union_cols.specs.promise.Unions.{UnionTree, union_items}
+use Rattle.tree_task.specs.promise.UnionAnswer.{items_text}
 use Rattle.tree_task.proofs.union.measured_lines.Goals as goal
 
 pub returns : goal.returns

@@ -1,10 +1,10 @@
 use Rattle.std.proofs.Common.{sym}
-use Rattle.layout_rules.specs.Values.{each}
+use Rattle.layout_rules.specs.promise.Values.{each}
 use Rattle.union_cols.specs.UnionCols.{array_in, kinds_in}
-use Rattle.data_types.specs.NumberedTexts.{numbered_line}
+use Rattle.data_types.specs.promise.NumberedTexts.{numbered_line}
 use Rattle.value_text.proofs.Parts.{appended}
-use Rattle.union_cols.specs.Unions.{union_item}
-use Rattle.tree_task.specs.UnionAnswer.{numbered_item}
+use Rattle.union_cols.specs.promise.Unions.{union_item}
+use Rattle.tree_task.specs.promise.UnionAnswer.{numbered_item}
 use Rattle.tree_task.proofs.UnionLines.{item_lines, lines-more}
 use Rattle.tree_task.proofs.union.push_items.Goals as goal
 

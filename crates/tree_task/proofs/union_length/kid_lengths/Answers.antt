@@ -1,10 +1,11 @@
 use Rattle.std.proofs.Common.{rules, ◌≡◌, ◌+◌, ◌<◌, ◌∙◌, List, length, map, get_or, sym, ap, subst}
-use Rattle.tree_model.specs.Tree.{Released, child_at, children_of}
-use Rattle.raw_array.specs.Members.{ArrayTree}
-use Rattle.data_types.specs.KindTrees.{KindTree}
-use Rattle.data_types.specs.TypedView.{typed_of}
+use Rattle.tree_model.specs.promise.TreeData.{Released}
+use Rattle.tree_model.specs.promise.TreeParts.{child_at, children_of}
+use Rattle.raw_array.specs.promise.Members.{ArrayTree}
+use Rattle.data_types.specs.promise.KindTrees.{KindTree}
+use Rattle.data_types.specs.promise.TypedView.{typed_of}
 use Rattle.data_types.proofs.Levels.{get_or-typed}
-use Rattle.layout_rules.specs.Values.{tree_items, value_at}
+use Rattle.layout_rules.specs.promise.Values.{tree_items, value_at}
 use Rattle.root_check.proofs.ChildFaults.{valid_kid}
 use Rattle.union_cols.proofs.Holding.{kid_lawful}
 use Rattle.value_text.specs.Lengths.{TellsKids, Tells}

@@ -1,5 +1,5 @@
 use Rattle.std.proofs.Common.{map}
-use Rattle.data_types.specs.TypedView.{typed_of}
+use Rattle.data_types.specs.promise.TypedView.{typed_of}
 use Rattle.value_text.specs.Lengths.{TellsKids}
 use Rattle.tree_task.proofs.union_length.kid_lengths.Given as goal
 

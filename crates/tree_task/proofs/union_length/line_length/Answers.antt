@@ -2,15 +2,15 @@ use Rattle.std.proofs.Common.{rules, ◌≡◌, ◌∙◌, ◌+◌, ◌++◌, su
 use Rattle.std.specs.Prelude.{decimal}
 use Rattle.std.proofs.lemmas.Int.{to_z_pos}
 use Rattle.std.specs.Int.{w128}
-use Rattle.data_types.specs.Value.Value.{Whole}
-use Rattle.layout_rules.specs.Layout.{natural}
-use Rattle.raw_array.specs.Members.{members_of}
+use Rattle.data_types.specs.promise.Value.Value.{Whole}
+use Rattle.layout_rules.specs.promise.Layout.{natural}
+use Rattle.raw_array.specs.promise.Members.{members_of}
 use Rattle.union_cols.specs.UnionCols.{array_in, kinds_in}
-use Rattle.union_cols.specs.Unions.{id_at, union_item, union_value}
+use Rattle.union_cols.specs.promise.Unions.{id_at, union_item, union_value}
 use Rattle.value_text.specs.Lengths.{capped, text_length}
-use Rattle.data_types.specs.NumberedTexts.{numbered_line}
-use Rattle.data_types.specs.ValueTexts.{value_text}
-use Rattle.tree_task.specs.UnionAnswer.{numbered_item}
+use Rattle.data_types.specs.promise.NumberedTexts.{numbered_line}
+use Rattle.data_types.specs.promise.ValueTexts.{value_text}
+use Rattle.tree_task.specs.promise.UnionAnswer.{numbered_item}
 use Rattle.tree_task.proofs.union_length.line_length.Goals as goal
 
 pub returns : goal.returns

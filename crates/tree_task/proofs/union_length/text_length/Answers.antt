@@ -1,9 +1,9 @@
 use Rattle.std.proofs.Common.{◌≡◌, ◌∙◌, ◌+◌, length, ap, arith, length-append}
-use Rattle.layout_rules.specs.Values.{each}
+use Rattle.layout_rules.specs.promise.Values.{each}
 use Rattle.union_cols.specs.UnionCols.{array_in, kinds_in}
-use Rattle.union_cols.specs.Unions.{union_item}
-use Rattle.data_types.specs.NumberedTexts.{numbered_line}
-use Rattle.tree_task.specs.UnionAnswer.{numbered_item}
+use Rattle.union_cols.specs.promise.Unions.{union_item}
+use Rattle.data_types.specs.promise.NumberedTexts.{numbered_line}
+use Rattle.tree_task.specs.promise.UnionAnswer.{numbered_item}
 use Rattle.tree_task.proofs.UnionLines.{item_lines, lines-more}
 use Rattle.tree_task.proofs.union_length.text_length.Goals as goal
 

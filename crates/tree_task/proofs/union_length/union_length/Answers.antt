@@ -1,11 +1,11 @@
 use Rattle.std.proofs.Common.{rules, ◌≡◌, List, length, subst, sym, IfOk}
-use Rattle.raw_array.specs.Members.{ArrayTree}
+use Rattle.raw_array.specs.promise.Members.{ArrayTree}
 use Rattle.union_cols.specs.UnionAnswers.{union_of}
 use Rattle.union_cols.specs.UnionCols.{array_in, kinds_in}
-use Rattle.union_cols.specs.Unions.{UnionTree, union_items}
+use Rattle.union_cols.specs.promise.Unions.{UnionTree, union_items}
 use Rattle.value_text.specs.Lengths.{TellsKids, capped}
 use Rattle.value_text.specs.declared.lengths.Lengths.{Lengths}
-use Rattle.tree_task.specs.UnionAnswer.{items_text}
+use Rattle.tree_task.specs.promise.UnionAnswer.{items_text}
 use Rattle.tree_task.proofs.union_length.union_length.Goals as goal
 
 pub text_length-requires : goal.text_length-requires

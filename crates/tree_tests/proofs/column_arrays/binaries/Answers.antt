@@ -1,5 +1,5 @@
 use Rattle.std.proofs.Common.{refl, arith, true, [], ◌∷◌}
-use Rattle.data_types.specs.Value.{Bytes}
+use Rattle.data_types.specs.promise.Value.{Bytes}
 use Rattle.data_types.specs.declared.kind.DataType.TheVariants as kinds
 use Rattle.tree_tests.proofs.TestColumns.{fitting}
 use Rattle.tree_tests.proofs.column_arrays.binaries.Goals as goal

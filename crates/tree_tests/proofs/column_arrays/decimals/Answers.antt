@@ -1,5 +1,5 @@
 use Rattle.std.proofs.Common.{rules, refl, arith, pos, negsuc, false, [], ◌∷◌}
-use Rattle.data_types.specs.Value.{Whole}
+use Rattle.data_types.specs.promise.Value.{Whole}
 use Rattle.data_types.specs.declared.kind.DataType.TheVariants as kinds
 use Rattle.tree_tests.proofs.TestColumns.{fitting}
 use Rattle.tree_tests.proofs.column_arrays.decimals.Goals as goal

@@ -1,11 +1,11 @@
 use Rattle.std.proofs.Common.{rules, ◌≤◌, refl, arith, inl, pos, false, [], ◌∷◌}
-use Rattle.data_types.specs.Value.{Whole}
+use Rattle.data_types.specs.promise.Value.{Whole}
 use Rattle.data_types.specs.declared.kind.DataType.TheVariants as kinds
 use Rattle.tree_tests.proofs.TestColumns.{fitting, items-of}
 use Rattle.arr_export.specs.ArrayTrees.{IsPlaceOf}
-use Rattle.layout_rules.specs.Values.{tree_items}
+use Rattle.layout_rules.specs.promise.Values.{tree_items}
 use Rattle.std.proofs.lemmas.List.Elements.{All-from_recursion}
-use Rattle.tree_model.specs.Tree.{IsLive}
+use Rattle.tree_model.specs.promise.TreeParts.{IsLive}
 use Rattle.tree_tests.proofs.column_arrays.places.Goals as goal
 
 pub exported-requires : goal.exported-requires

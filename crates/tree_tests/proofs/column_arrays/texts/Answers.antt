@@ -1,7 +1,7 @@
 use Rattle.std.proofs.Common.{refl, arith, false, [], ◌∷◌}
 use Rattle.std.specs.Str.{chars, is_utf8}
 use lib.Utf8.{encode}
-use Rattle.data_types.specs.Value.{Null, Bytes}
+use Rattle.data_types.specs.promise.Value.{Null, Bytes}
 use Rattle.data_types.specs.declared.kind.DataType.TheVariants as kinds
 use Rattle.tree_tests.proofs.TestColumns.{fitting}
 use Rattle.tree_tests.proofs.column_arrays.texts.Goals as goal

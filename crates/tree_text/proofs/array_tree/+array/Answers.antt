@@ -1,11 +1,13 @@
 use Rattle.std.proofs.Common.{rules, ◌+◌, ◌≤◌, List, [], ◌∷◌, length, replicate, sym, ap, ◌∙◌, arith, subst, Some}
-use Rattle.tree_model.specs.Tree.{trees}
-use Rattle.tree_model.specs.TreeCost.{Nodes, nodes_of_all, Holds, holds_of_all}
-use Rattle.raw_array.specs.Members.{ArrayTree, Cost, cost_of_all, holds}
+use Rattle.tree_model.specs.promise.TreeData.{trees}
+use Rattle.tree_model.specs.promise.TreeCost.{Nodes, Holds, holds_of_all}
+use Rattle.tree_model.specs.TreeCost.{nodes_of_all}
+use Rattle.raw_array.specs.promise.Members.{ArrayTree, Cost, holds}
+use Rattle.raw_array.specs.Members.{cost_of_all}
 use Rattle.raw_array.specs.View.{buffers_of}
 use Rattle.raw_array.proofs.Buffers.{length-buffers_of}
 use Rattle.tree_model.proofs.Measures.{cost_of_all-append}
-use Rattle.tree_text.specs.Standing.{ReleasedLine, LiveLine, AtArray}
+use Rattle.tree_text.specs.promise.Standing.{ReleasedLine, LiveLine, AtArray}
 use Rattle.tree_text.specs.declared.node_line.ArrayLine.{ArrayLine}
 use Rattle.tree_text.specs.Cursors.{left, ArrayRead, ArraysRead}
 use Rattle.tree_text.specs.LineView.{array_own, array_told}

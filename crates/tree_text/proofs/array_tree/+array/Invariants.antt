@@ -1,8 +1,10 @@
 use Rattle.std.proofs.Common.{◌≡◌, ◌+◌, ◌-◌, ◌*◌}
-use Rattle.tree_model.specs.Tree.{trees}
-use Rattle.tree_model.specs.TreeCost.{nodes_of_all, holds_of_all}
-use Rattle.unit_pass.specs.Tally.{risen}
-use Rattle.raw_array.specs.Members.{cost_of_all, holds}
+use Rattle.tree_model.specs.promise.TreeData.{trees}
+use Rattle.tree_model.specs.promise.TreeCost.{holds_of_all}
+use Rattle.tree_model.specs.TreeCost.{nodes_of_all}
+use Rattle.unit_pass.specs.promise.Tally.{risen}
+use Rattle.raw_array.specs.promise.Members.{holds}
+use Rattle.raw_array.specs.Members.{cost_of_all}
 use Rattle.tree_text.specs.Cursors.{ArraysRead}
 use Rattle.tree_text.proofs.array_tree.+array.Given as goal
 

@@ -1,6 +1,6 @@
 use Rattle.std.proofs.Common.{rules, ◌+◌, List, [], ◌∷◌, Option, sym, ap, arith, subst}
 use Rattle.buf_block.specs.declared.hold.BufView.{BufView}
-use Rattle.raw_array.specs.Members.{holds_of}
+use Rattle.raw_array.specs.promise.Members.{holds_of}
 use Rattle.raw_array.specs.View.{buffers_of}
 use Rattle.raw_array.proofs.Buffers.{holds_of-append}
 use Rattle.tree_text.specs.Cursors.{BuffersRead}

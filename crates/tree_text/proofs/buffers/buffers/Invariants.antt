@@ -1,6 +1,6 @@
 use Rattle.std.proofs.Common.{◌≡◌, ◌+◌}
-use Rattle.unit_pass.specs.Tally.{risen}
-use Rattle.raw_array.specs.Members.{holds_of}
+use Rattle.unit_pass.specs.promise.Tally.{risen}
+use Rattle.raw_array.specs.promise.Members.{holds_of}
 use Rattle.raw_array.specs.View.{buffers_of}
 use Rattle.tree_text.specs.Cursors.{BuffersRead}
 use Rattle.tree_text.proofs.buffers.buffers.Given as goal

@@ -1,6 +1,6 @@
 use Rattle.std.proofs.Common.{[], ◌∷◌, arith, sym, subst}
 use Rattle.tree_text.specs.declared.fault.TextFault.TheVariants.{Line}
-use Rattle.tree_text.specs.Standing.{AtSchema, AtArray}
+use Rattle.tree_text.specs.promise.Standing.{AtSchema, AtArray}
 use Rattle.tree_text.specs.Cursors.{left, StopsLast}
 use Rattle.tree_text.proofs.SchemaSteps.{left_tree}
 use Rattle.tree_text.proofs.WholeText.{stops_in_array, stops_behind}

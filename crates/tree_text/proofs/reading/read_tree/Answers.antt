@@ -1,7 +1,7 @@
 use Rattle.std.proofs.Common.{rules, ◌≤◌, length, refl, Err}
 use Rattle.std.specs.Str.Lines.{lines}
 use Rattle.tree_text.specs.declared.cursor.Cursor.{Cursor}
-use Rattle.tree_text.specs.Answers.{most_lines}
+use Rattle.tree_text.specs.promise.Answers.{most_lines}
 use Rattle.tree_text.proofs.OneTree.{gives}
 use Rattle.tree_text.proofs.WholeText.{origin_is, read_result, fault_result, first_named}
 use Rattle.tree_text.proofs.reading.read_tree.Goals as goal

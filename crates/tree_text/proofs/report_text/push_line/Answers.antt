@@ -1,8 +1,8 @@
 use Rattle.std.proofs.Common.{rules, ◌≡◌, ◌∷◌, ◌++◌, Some}
 use Rattle.std.specs.Fmt.{signed_decimal}
-use Rattle.data_types.specs.WayTexts.{way_text}
-use Rattle.data_types.specs.Ways.{steps_of}
-use Rattle.tree_text.specs.TreeText.{token}
+use Rattle.data_types.specs.promise.WayTexts.{way_text}
+use Rattle.data_types.specs.promise.Ways.{steps_of}
+use Rattle.tree_text.specs.promise.TreeText.{token}
 use Rattle.tree_text.proofs.ReportLines.{line_written}
 use Rattle.tree_text.proofs.report_text.push_line.Goals as goal
 

@@ -1,11 +1,14 @@
 use Rattle.std.proofs.Common.{rules, ◌≡◌, ◌+◌, ◌*◌, ◌<◌, ◌≤◌, ℕ, List, length, map, get_or, sym, ap, ◌∙◌, arith, subst}
 use Rattle.std.proofs.lemmas.List.{length-map}
-use Rattle.tree_model.specs.Tree.{Released, trees, children_of, child_at, Depth, depth_of_all}
+use Rattle.tree_model.specs.promise.TreeData.{Released, trees}
+use Rattle.tree_model.specs.promise.TreeParts.{children_of, child_at}
+use Rattle.tree_model.specs.Tree.{Depth, depth_of_all}
 use Rattle.data_types.specs.declared.typed.Typed.{Typed, out-Typed}
-use Rattle.data_types.specs.Ways.{steps_of}
-use Rattle.data_types.specs.KindTrees.{KindTree, AllNodesOk}
-use Rattle.data_types.specs.TypedView.{typed_of}
-use Rattle.layout_rules.specs.Walk.{LayoutOk}
+use Rattle.data_types.specs.promise.Ways.{steps_of}
+use Rattle.data_types.specs.promise.KindTrees.{KindTree}
+use Rattle.data_types.specs.KindTrees.{AllNodesOk}
+use Rattle.data_types.specs.promise.TypedView.{typed_of}
+use Rattle.layout_rules.specs.promise.Walk.{LayoutOk}
 use Rattle.data_types.proofs.Levels.{levels-kid, levels-typed, kid-ok, kids-ok, get_or-typed}
 use Rattle.tree_text.proofs.Reports.{child_more, children_end, tree_steps}
 use Rattle.tree_text.proofs.report_tree.+report.Goals as goal

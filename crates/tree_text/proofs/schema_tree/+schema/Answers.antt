@@ -1,8 +1,10 @@
 use Rattle.std.proofs.Common.{rules, ◌+◌, ◌≤◌, List, [], ◌∷◌, length, refl, sym, ap, ◌∙◌, arith, subst, Some}
-use Rattle.tree_model.specs.Tree.{trees}
-use Rattle.raw_schema.specs.Members.{SchemaTree, Nodes, nodes_of_all, no_holds}
+use Rattle.tree_model.specs.promise.TreeData.{trees}
+use Rattle.raw_schema.specs.promise.Members.{SchemaTree}
+use Rattle.tree_model.specs.promise.TreeCost.{Nodes, no_holds}
+use Rattle.raw_schema.specs.Members.{nodes_of_all}
 use Rattle.tree_model.proofs.Measures.{cost_of_all-append}
-use Rattle.tree_text.specs.Standing.{ReleasedLine, LiveLine}
+use Rattle.tree_text.specs.promise.Standing.{ReleasedLine, LiveLine}
 use Rattle.tree_text.specs.declared.node_line.SchemaLine.{SchemaLine}
 use Rattle.tree_text.specs.Cursors.{left, SchemaRead, SchemasRead}
 use Rattle.tree_text.specs.LineView.{schema_own, schema_told}

@@ -1,6 +1,6 @@
 use Rattle.std.proofs.Common.{◌≡◌, ◌+◌, ◌-◌, ◌*◌}
-use Rattle.tree_model.specs.Tree.{trees}
-use Rattle.unit_pass.specs.Tally.{risen}
+use Rattle.tree_model.specs.promise.TreeData.{trees}
+use Rattle.unit_pass.specs.promise.Tally.{risen}
 use Rattle.raw_schema.specs.Members.{nodes_of_all}
 use Rattle.tree_text.specs.Cursors.{SchemasRead}
 use Rattle.tree_text.proofs.schema_tree.+schema.Given as goal

@@ -1,6 +1,6 @@
 use Rattle.std.proofs.Common.{◌≡◌, ◌+◌, false, get_or, drop, sym, ap, ◌∙◌, arith, length-drop}
-use Rattle.tree_text.specs.TreeText.{is_plain}
-use Rattle.tree_text.specs.Standing.{read_bytes}
+use Rattle.tree_text.specs.promise.TreeText.{is_plain}
+use Rattle.tree_text.specs.promise.Standing.{read_bytes}
 use Rattle.tree_text.proofs.TokenBytes.{front, read_short}
 use Rattle.tree_text.proofs.tokens.byte_at.Goals as goal
 

@@ -1,5 +1,5 @@
 use Rattle.std.proofs.Common.{List, ℕ, drop, sym, ap, ◌∙◌}
-use Rattle.tree_text.specs.Standing.{read_bytes}
+use Rattle.tree_text.specs.promise.Standing.{read_bytes}
 use Rattle.tree_text.proofs.TokenBytes.{before, before_more}
 use Rattle.tree_text.proofs.tokens.spelled_bytes.Goals as goal
 

@@ -1,11 +1,11 @@
 use Rattle.std.proofs.Common.{List, map, sym, subst, refl}
 use Rattle.std.specs.Prelude.{All}
 use Rattle.std.specs.List.{AllZip}
-use Rattle.tree_model.specs.Tree.{IsLive, children_of}
-use Rattle.raw_array.specs.Members.{ArrayTree}
+use Rattle.tree_model.specs.promise.TreeParts.{IsLive, children_of}
+use Rattle.raw_array.specs.promise.Members.{ArrayTree}
 use Rattle.data_types.specs.declared.typed.Typed.{Typed}
-use Rattle.data_types.specs.TypedView.{typed_of}
-use Rattle.layout_rules.specs.Walk.{LayoutOk}
+use Rattle.data_types.specs.promise.TypedView.{typed_of}
+use Rattle.layout_rules.specs.promise.Walk.{LayoutOk}
 use Rattle.union_cols.proofs.Holding.{children_live, kinds_live}
 use Rattle.union_cols.proofs.check.check_union.Goals as goal
 

@@ -1,7 +1,7 @@
 use Rattle.std.proofs.Common.{rules, ◌≡◌, ◌<◌, ◌++◌, ◌∷◌, [], length, refl}
 use Rattle.std.specs.Prelude.{decimal}
-use Rattle.fmt_string.specs.FormatString.{StartsWith, StartsWithDigit}
-use Rattle.union_cols.specs.UnionFormats.{AreIds}
+use Rattle.fmt_string.specs.promise.FormatString.{StartsWith, StartsWithDigit}
+use Rattle.union_cols.specs.promise.UnionFormats.{AreIds}
 use Rattle.union_cols.proofs.FormatSteps.{behind_id, last_id}
 use Rattle.union_cols.proofs.format.read_ids.Goals as goal
 

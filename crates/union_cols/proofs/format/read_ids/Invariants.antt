@@ -1,5 +1,5 @@
 use Rattle.std.proofs.Common.{◌≡◌, ◌<◌, ◌++◌, length}
-use Rattle.union_cols.specs.UnionFormats.{AreIds, ids_before}
+use Rattle.union_cols.specs.promise.UnionFormats.{AreIds, ids_before}
 use Rattle.union_cols.proofs.format.read_ids.Given as goal
 
 -- the ids so far are before what is left

@@ -1,8 +1,8 @@
 use Rattle.std.proofs.Common.{◌≡◌, length, sym, ◌∙◌}
 use Rattle.std.proofs.lemmas.List.{length-map}
-use Rattle.data_types.specs.TypedView.{typed_of}
+use Rattle.data_types.specs.promise.TypedView.{typed_of}
 use Rattle.union_cols.specs.UnionAnswers.{union_of}
-use Rattle.union_cols.specs.UnionRules.{union_fault}
+use Rattle.union_cols.specs.promise.UnionRules.{union_fault}
 use Rattle.union_cols.proofs.Holding.{union_hold, kinds_live, none_of}
 use Rattle.union_cols.proofs.laws.union_holds.Goals as goal
 

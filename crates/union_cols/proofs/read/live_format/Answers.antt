@@ -1,5 +1,5 @@
 use Rattle.std.proofs.Common.{ℕ, List, subst}
-use Rattle.union_cols.specs.UnionFormats.{UnionFormatFault}
+use Rattle.union_cols.specs.promise.UnionFormats.{UnionFormatFault}
 use Rattle.union_cols.proofs.read.live_format.Goals as goal
 
 pub returns-in-Err-At-clause-fault : goal.returns-in-Err-At-clause-fault

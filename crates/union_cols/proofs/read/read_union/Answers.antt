@@ -1,6 +1,6 @@
 use Rattle.std.proofs.Common.{rules}
 use Rattle.std.specs.Prelude.{IfOk, IfErr}
-use Rattle.union_cols.specs.UnionSchemas.{UnionOf}
+use Rattle.union_cols.specs.promise.UnionSchemas.{UnionOf}
 use Rattle.union_cols.specs.UnionAnswers.{union_of, IsUnionFault}
 use Rattle.union_cols.proofs.OneUnion.{gives_union}
 use Rattle.union_cols.proofs.read.read_union.Goals as goal

@@ -1,7 +1,7 @@
 use Rattle.std.proofs.Common.{rules, arith}
 use Rattle.std.proofs.lemmas.Grind.{common_steps}
 use Rattle.union_cols.specs.declared.kinds.UnionTyped.{UnionTyped}
-use Rattle.union_cols.specs.UnionSchemas.{UnionOf}
+use Rattle.union_cols.specs.promise.UnionSchemas.{UnionOf}
 use Rattle.union_cols.specs.UnionAnswers.{union_of}
 use Rattle.union_cols.proofs.OneUnion.{union_valid}
 use Rattle.union_cols.proofs.read.union_kinds.Goals as goal

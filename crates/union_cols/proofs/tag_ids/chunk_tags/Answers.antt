@@ -1,13 +1,13 @@
 use Rattle.std.proofs.Common.{◌≡◌, ◌∙◌, ℕ, ◌+◌, [], ◌∷◌, ◌++◌, length, get_or, map, ap, sym, subst, true, arith}
 use Rattle.std.proofs.lemmas.List.{length-map}
-use Rattle.data_types.specs.TypedView.{typed_of}
-use Rattle.data_types.specs.Value.{Null, is_null}
-use Rattle.layout_rules.specs.Values.{each, row_items, tree_items}
-use Rattle.tree_model.specs.Tree.{children_of}
+use Rattle.data_types.specs.promise.TypedView.{typed_of}
+use Rattle.data_types.specs.promise.Value.{Null, is_null}
+use Rattle.layout_rules.specs.promise.Values.{each, row_items, tree_items}
+use Rattle.tree_model.specs.promise.TreeParts.{children_of}
 use Rattle.arr_import.specs.declared.col.Col.{Col}
 use Rattle.arr_import.specs.Cols.{window_of}
 use Rattle.arr_import.specs.Window.{Window, item_at}
-use Rattle.union_cols.specs.Tags.{tag_of}
+use Rattle.union_cols.specs.promise.Tags.{tag_of}
 use Rattle.union_cols.specs.NullColumns.{AreAllBut, IsNullColumn}
 use Rattle.union_cols.proofs.NullColumns.{weaker, whole-rows}
 use Rattle.union_cols.proofs.Numbering.{map-each}

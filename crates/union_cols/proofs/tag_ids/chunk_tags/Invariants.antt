@@ -1,7 +1,7 @@
 use Rattle.std.proofs.Common.{◌≡◌, ◌≤◌, vec_len, vec_capacity}
-use Rattle.data_types.specs.TypedView.{typed_of}
-use Rattle.layout_rules.specs.Values.{each, row_items}
-use Rattle.union_cols.specs.Tags.{tag_of}
+use Rattle.data_types.specs.promise.TypedView.{typed_of}
+use Rattle.layout_rules.specs.promise.Values.{each, row_items}
+use Rattle.union_cols.specs.promise.Tags.{tag_of}
 use Rattle.union_cols.proofs.tag_ids.chunk_tags.Given as goal
 
 -- the ids of the rows before this one, in the room that was taken for all

@@ -4,15 +4,16 @@ use Rattle.arr_import.proofs.Reading.{children-count, kids-typed}
 use Rattle.arr_import.specs.Cols.{window_of}
 use Rattle.arr_import.specs.Window.{child_window, item_at}
 use Rattle.data_types.proofs.Levels.{get_or-typed}
-use Rattle.data_types.specs.KindTrees.{KindTree}
-use Rattle.data_types.specs.TypedView.{typed_of}
-use Rattle.data_types.specs.Value.{Null, is_null}
+use Rattle.data_types.specs.promise.KindTrees.{KindTree}
+use Rattle.data_types.specs.promise.TypedView.{typed_of}
+use Rattle.data_types.specs.promise.Value.{Null, is_null}
 use Rattle.data_types.specs.declared.typed.Typed.{Typed, out-Typed}
-use Rattle.layout_rules.specs.Layout.{first}
-use Rattle.layout_rules.specs.Values.{row_items, value_at}
-use Rattle.layout_rules.specs.Walk.{LayoutOk}
-use Rattle.raw_array.specs.Members.{ArrayTree, members_of}
-use Rattle.tree_model.specs.Tree.{IsLive, Released, child_at}
+use Rattle.layout_rules.specs.promise.Layout.{first}
+use Rattle.layout_rules.specs.promise.Values.{row_items, value_at}
+use Rattle.layout_rules.specs.promise.Walk.{LayoutOk}
+use Rattle.raw_array.specs.promise.Members.{ArrayTree, members_of}
+use Rattle.tree_model.specs.promise.TreeParts.{IsLive, child_at}
+use Rattle.tree_model.specs.promise.TreeData.{Released}
 use Rattle.union_cols.proofs.NullColumns.{whole-rows}
 use Rattle.union_cols.proofs.tag_ids.is_null_column.Goals as goal
 

@@ -1,5 +1,5 @@
 use Rattle.std.proofs.Common.{◌≡◌, ◌∙◌, ◌++◌, sym}
-use Rattle.data_types.specs.Packed.{le_bytes}
+use Rattle.data_types.specs.promise.Packed.{le_bytes}
 use Rattle.union_cols.proofs.TagSteps.{four-bytes, starts-next}
 use Rattle.union_cols.proofs.tag_ids.row_starts.Goals as goal
 

@@ -1,6 +1,6 @@
 use Rattle.std.proofs.Common.{◌≡◌, ◌<◌, ◌≤◌, ◌∙◌, get_or, length, map, true, sym, ap, arith}
 use Rattle.std.proofs.lemmas.List.{length-map}
-use Rattle.data_types.specs.Value.{Null, is_null}
+use Rattle.data_types.specs.promise.Value.{Null, is_null}
 use Rattle.arr_import.specs.declared.col.Col.{Col}
 use Rattle.arr_import.specs.Cols.{window_of}
 use Rattle.arr_import.specs.Window.{item_at}

@@ -1,5 +1,5 @@
 use Rattle.std.proofs.Common.{◌≡◌, ◌<◌, ℕ, get_or, length, map, true}
-use Rattle.data_types.specs.Value.{Null, is_null}
+use Rattle.data_types.specs.promise.Value.{Null, is_null}
 use Rattle.arr_import.specs.Cols.{window_of}
 use Rattle.arr_import.specs.Window.{item_at}
 use Rattle.union_cols.proofs.tag_ids.tag_at.Given as goal

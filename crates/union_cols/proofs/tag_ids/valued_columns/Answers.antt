@@ -1,9 +1,9 @@
 use Rattle.std.proofs.Common.{rules, ◌≡◌, ◌∙◌, ◌+◌, length, ap, sym, subst, arith}
 use Rattle.std.specs.Prelude.{IsTrue}
 use Rattle.arr_import.proofs.Reading.{children-count}
-use Rattle.data_types.specs.TypedView.{typed_of}
+use Rattle.data_types.specs.promise.TypedView.{typed_of}
 use Rattle.data_types.specs.declared.typed.Typed.{out-Typed}
-use Rattle.tree_model.specs.Tree.{children_of}
+use Rattle.tree_model.specs.promise.TreeParts.{children_of}
 use Rattle.union_cols.specs.NullColumns.{AreAllBut, IsNullColumn}
 use Rattle.union_cols.proofs.NullColumns.{looked-at, passed-over}
 use Rattle.union_cols.proofs.tag_ids.valued_columns.Goals as goal

@@ -1,4 +1,4 @@
-use Rattle.data_types.specs.TypedView.{typed_of}
+use Rattle.data_types.specs.promise.TypedView.{typed_of}
 use Rattle.union_cols.specs.NullColumns.{AreAllBut, IsNullColumn}
 use Rattle.union_cols.proofs.tag_ids.valued_columns.Given as goal
 

@@ -1,8 +1,10 @@
 use Rattle.std.proofs.Common.{◌≡◌, ◌<◌, length, map, refl, ap, sym, ◌∙◌, arith, w64, to_z, of_z}
 use Rattle.std.proofs.lemmas.Int.{ints}
 use Rattle.std.proofs.lemmas.List.{length-set}
-use Rattle.tree_model.specs.Tree.{Released, Depth, children_of, child_at}
-use Rattle.raw_array.specs.Members.{Cost, holds}
+use Rattle.tree_model.specs.promise.TreeData.{Released}
+use Rattle.tree_model.specs.promise.TreeParts.{children_of, child_at}
+use Rattle.tree_model.specs.Tree.{Depth}
+use Rattle.raw_array.specs.promise.Members.{Cost, holds}
 use Rattle.raw_array.specs.Windows.{Window}
 use Rattle.raw_array.proofs.Windows.{Cost-Window}
 use Rattle.tree_model.proofs.Parted.{Cost-child}

@@ -1,6 +1,6 @@
 use Rattle.std.proofs.Common.{◌≡◌, ℕ, ◌+◌, ◌<◌, ◌≤◌, map, take, length}
-use Rattle.tree_model.specs.Tree.{children_of, child_at}
-use Rattle.raw_array.specs.Members.{Cost}
+use Rattle.tree_model.specs.promise.TreeParts.{children_of, child_at}
+use Rattle.raw_array.specs.promise.Members.{Cost}
 use Rattle.arr_move.specs.TreeActs.{cut, with_children}
 use Rattle.arr_move.proofs.Filled.{filled}
 use Rattle.union_cols.specs.Tags.{numbers}

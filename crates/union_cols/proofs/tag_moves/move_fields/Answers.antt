@@ -1,7 +1,9 @@
 use Rattle.std.proofs.Common.{◌≡◌, ◌<◌, length, refl, ap, sym, ◌∙◌, arith}
 use Rattle.std.proofs.lemmas.List.{length-set}
-use Rattle.tree_model.specs.Tree.{Released, Depth, children_of, child_at}
-use Rattle.raw_schema.specs.Members.{Nodes, no_holds}
+use Rattle.tree_model.specs.promise.TreeData.{Released}
+use Rattle.tree_model.specs.promise.TreeParts.{children_of, child_at}
+use Rattle.tree_model.specs.Tree.{Depth}
+use Rattle.tree_model.specs.promise.TreeCost.{Nodes, no_holds}
 use Rattle.tree_model.proofs.Parted.{Cost-child}
 use Rattle.arr_move.specs.TreeActs.{with_children}
 use Rattle.arr_move.proofs.Filled.{children_of-with_child, Depth-child_at}

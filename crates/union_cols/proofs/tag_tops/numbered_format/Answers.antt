@@ -1,8 +1,8 @@
 use Rattle.std.proofs.Common.{◌≡◌, ◌∙◌, ◌++◌, ap, sym, append_assoc, arith}
 use Rattle.std.specs.Prelude.{decimal}
-use Rattle.fmt_string.specs.FormatString.{comma}
+use Rattle.fmt_string.specs.promise.FormatString.{comma}
 use Rattle.union_cols.specs.Tags.{numbers}
-use Rattle.union_cols.specs.UnionFormats.{ids_before, keyword}
+use Rattle.union_cols.specs.promise.UnionFormats.{ids_before, keyword}
 use Rattle.union_cols.proofs.TagSteps.{before-next, format-last}
 use Rattle.union_cols.proofs.tag_tops.numbered_format.Goals as goal
 

@@ -1,5 +1,5 @@
 use Rattle.std.proofs.Common.{◌≡◌, ◌≤◌, replicate, vec_len, vec_capacity}
-use Rattle.tree_model.specs.Tree.{Released}
+use Rattle.tree_model.specs.promise.TreeData.{Released}
 use Rattle.union_cols.proofs.tag_tops.vacant_fields.Given as goal
 
 -- as many children are there as places were counted

@@ -1,10 +1,11 @@
 use Rattle.std.proofs.Common.{◌≡◌, ◌∙◌, None, length, ap, sym, subst, rules}
-use Rattle.tree_model.specs.Tree.{children_of}
-use Rattle.data_types.specs.TypedView.{typed_of}
+use Rattle.tree_model.specs.promise.TreeParts.{children_of}
+use Rattle.data_types.specs.promise.TypedView.{typed_of}
 use Rattle.arr_move.specs.TreeActs.{with_children}
-use Rattle.layout_rules.specs.Values.{tree_items}
+use Rattle.layout_rules.specs.promise.Values.{tree_items}
 use Rattle.union_cols.specs.TagAnswers.{ChecksAsUnion}
-use Rattle.union_cols.specs.Tags.{cut_columns, tag_fault, tagged_array, tagged_kinds, tagged_schema}
+use Rattle.union_cols.specs.promise.Tags.{tag_fault}
+use Rattle.union_cols.specs.Tags.{cut_columns, tagged_array, tagged_kinds, tagged_schema}
 use Rattle.union_cols.proofs.TagLaw.{tagged}
 use Rattle.union_cols.proofs.tagged.tag.Goals as goal
 

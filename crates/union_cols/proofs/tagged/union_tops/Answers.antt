@@ -1,14 +1,15 @@
 use Rattle.std.proofs.Common.{◌≡◌, ◌∙◌, [], ◌∷◌, length, ap, arith}
 use Rattle.std.specs.Prelude.{◌==◌, if◌then◌else◌}
 use Rattle.std.proofs.lemmas.List.{length-map}
-use Rattle.tree_model.specs.Tree.{children_of}
-use Rattle.raw_array.specs.Members.{holds_of}
-use Rattle.data_types.specs.TypedView.{typed_of}
-use Rattle.layout_rules.specs.Values.{row_items, rows_of, tree_items}
+use Rattle.tree_model.specs.promise.TreeParts.{children_of}
+use Rattle.raw_array.specs.promise.Members.{holds_of}
+use Rattle.data_types.specs.promise.TypedView.{typed_of}
+use Rattle.layout_rules.specs.promise.Values.{row_items, rows_of, tree_items}
 use Rattle.layout_rules.proofs.TreeLaws.{root_holds}
 use Rattle.array_laws.proofs.WindowItems.{length-each}
-use Rattle.unit_pass.specs.Tally.{risen}
-use Rattle.union_cols.specs.Tags.{block_of, start_bytes, tag_blocks, tag_of}
+use Rattle.unit_pass.specs.promise.Tally.{risen}
+use Rattle.union_cols.specs.promise.Tags.{tag_blocks, tag_of}
+use Rattle.union_cols.specs.Tags.{block_of, start_bytes}
 use Rattle.union_cols.specs.TagViews.{starts_in}
 use Rattle.union_cols.proofs.TagLaw.{live-kind, no-fault-of}
 use Rattle.union_cols.proofs.TagSteps.{tag-holds}

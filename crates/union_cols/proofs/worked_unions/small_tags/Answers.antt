@@ -1,7 +1,7 @@
 use Rattle.std.proofs.Common.{refl, ◌++◌, [], ◌∷◌, arith}
 use Rattle.std.proofs.lemmas.Fmt.{decimal_digit}
 use Rattle.std.specs.Prelude.{true}
-use Rattle.union_cols.specs.UnionFormats.{joined, keyword}
+use Rattle.union_cols.specs.promise.UnionFormats.{joined, keyword}
 use Rattle.union_cols.proofs.worked_unions.small_tags.Goals as goal
 
 pub returns : goal.returns

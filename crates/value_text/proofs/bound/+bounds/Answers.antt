@@ -1,10 +1,11 @@
 use Rattle.std.proofs.Common.{rules, ◌≡◌, ◌<◌, ◌∙◌, length, map, get_or, sym, ap, arith, subst}
 use Rattle.std.proofs.lemmas.List.{length-map}
-use Rattle.tree_model.specs.Tree.{Released, child_at}
-use Rattle.data_types.specs.KindTrees.{KindTree}
-use Rattle.data_types.specs.TypedView.{typed_of}
+use Rattle.tree_model.specs.promise.TreeData.{Released}
+use Rattle.tree_model.specs.promise.TreeParts.{child_at}
+use Rattle.data_types.specs.promise.KindTrees.{KindTree}
+use Rattle.data_types.specs.promise.TypedView.{typed_of}
 use Rattle.data_types.proofs.Levels.{levels-kid, kid-ok, get_or-typed}
-use Rattle.layout_rules.specs.Walk.{LayoutOk}
+use Rattle.layout_rules.specs.promise.Walk.{LayoutOk}
 use Rattle.value_text.proofs.bound.+bounds.Goals as goal
 
 pub kids_bound-bound_of-requires : goal.kids_bound-bound_of-requires

@@ -1,6 +1,6 @@
 use Rattle.std.proofs.Common.{◌≡◌, ◌++◌, take}
 use Rattle.std.specs.List.{flat_map}
-use Rattle.data_types.specs.ValueTexts.{byte_text}
+use Rattle.data_types.specs.promise.ValueTexts.{byte_text}
 use Rattle.value_text.proofs.escapes.push_each.Given as goal
 
 -- the bytes so far are written

@@ -1,5 +1,5 @@
 use Rattle.std.proofs.Common.{ℕ, length, arith}
-use Rattle.data_types.specs.Value.{Value}
+use Rattle.data_types.specs.promise.Value.{Value}
 use Rattle.value_text.specs.Lengths.{AreLengths}
 use Rattle.value_text.proofs.LengthSums.{more-lines}
 use Rattle.value_text.proofs.lengths.own_lines.Goals as goal

@@ -1,9 +1,9 @@
 use Rattle.std.proofs.Common.{◌≡◌, ◌+◌, ℕ, length}
 use Rattle.std.specs.List.{flat_map}
-use Rattle.data_types.specs.Value.{Value}
-use Rattle.layout_rules.specs.Values.{each}
+use Rattle.data_types.specs.promise.Value.{Value}
+use Rattle.layout_rules.specs.promise.Values.{each}
 use Rattle.value_text.specs.Lengths.{AreLengths, capped}
-use Rattle.data_types.specs.ValueTexts.{value_line}
+use Rattle.data_types.specs.promise.ValueTexts.{value_line}
 use Rattle.value_text.proofs.lengths.own_lines.Given as goal
 
 -- the lines so far, behind that of `ok`

@@ -1,6 +1,6 @@
 use Rattle.std.proofs.Common.{ℕ, ◌∙◌, ◌+◌, ◌<◌, length, ap, arith, sym}
-use Rattle.data_types.specs.Value.{Value}
-use Rattle.layout_rules.specs.Values.{each}
+use Rattle.data_types.specs.promise.Value.{Value}
+use Rattle.layout_rules.specs.promise.Values.{each}
 use Rattle.value_text.specs.Lengths.{AreLengths, capped}
 use Rattle.value_text.proofs.Parts.{list-more, parts}
 use Rattle.value_text.proofs.lengths.own_list.Goals as goal

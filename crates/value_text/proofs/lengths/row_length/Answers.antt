@@ -1,5 +1,5 @@
 use Rattle.std.proofs.Common.{◌≡◌, List, ap, arith}
-use Rattle.data_types.specs.Value.{Value}
+use Rattle.data_types.specs.promise.Value.{Value}
 use Rattle.value_text.specs.Lengths.{AreFieldLengths, some_fields}
 use Rattle.value_text.proofs.LengthSums.{row-long}
 use Rattle.value_text.proofs.lengths.row_length.Goals as goal

@@ -1,5 +1,5 @@
 use Rattle.std.proofs.Common.{◌<◌, ◌≡◌, ℕ, arith}
-use Rattle.data_types.specs.Value.{Value}
+use Rattle.data_types.specs.promise.Value.{Value}
 use Rattle.value_text.specs.Lengths.{text_length}
 use Rattle.value_text.proofs.LengthSums.{same-lines}
 use Rattle.value_text.proofs.lengths.same_lines.Goals as goal

@@ -1,6 +1,6 @@
 use Rattle.std.proofs.Common.{◌≡◌, ◌+◌, ◌-◌, ◌<◌, ℕ, arith}
-use Rattle.data_types.specs.Value.{Value}
-use Rattle.layout_rules.specs.Values.{each}
+use Rattle.data_types.specs.promise.Value.{Value}
+use Rattle.layout_rules.specs.promise.Values.{each}
 use Rattle.value_text.specs.Lengths.{text_length}
 use Rattle.value_text.proofs.LengthSums.{list-long, same-parts}
 use Rattle.value_text.proofs.lengths.same_list.Goals.{else-count-gt0, then-count-gt0}

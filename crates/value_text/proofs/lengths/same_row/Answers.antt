@@ -1,5 +1,5 @@
 use Rattle.std.proofs.Common.{◌≡◌, List, ℕ, [], ◌∷◌, length, ap, refl, arith}
-use Rattle.data_types.specs.Value.{Value}
+use Rattle.data_types.specs.promise.Value.{Value}
 use Rattle.value_text.specs.Lengths.{AreFieldLengths, some_fields}
 use Rattle.value_text.proofs.LengthSums.{row-long}
 use Rattle.value_text.proofs.lengths.same_row.Goals as goal

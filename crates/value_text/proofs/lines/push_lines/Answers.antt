@@ -1,8 +1,8 @@
 use Rattle.std.proofs.Common.{◌∙◌, ◌+◌, [], ◌∷◌, ◌++◌, ap, append_assoc, sym}
 use Rattle.std.specs.List.{flat_map}
-use Rattle.layout_rules.specs.Values.{each, value_at}
+use Rattle.layout_rules.specs.promise.Values.{each, value_at}
 use Rattle.arr_import.specs.Cols.{window_of}
-use Rattle.data_types.specs.ValueTexts.{value_line, value_text}
+use Rattle.data_types.specs.promise.ValueTexts.{value_line, value_text}
 use Rattle.value_text.proofs.Parts.{appended, lines-more}
 use Rattle.value_text.proofs.lines.push_lines.Goals as goal
 

@@ -1,10 +1,10 @@
 use Rattle.std.proofs.Common.{◌∙◌, ◌+◌, ◌<◌, ℕ, length, ap, arith, subst}
-use Rattle.tree_model.specs.Tree.{child_at}
-use Rattle.raw_array.specs.Members.{members_of}
+use Rattle.tree_model.specs.promise.TreeParts.{child_at}
+use Rattle.raw_array.specs.promise.Members.{members_of}
 use Rattle.data_types.specs.TypedView.{kind_of, kids_of, dict_in}
 use Rattle.data_types.specs.declared.typed.Typed.{out-Typed}
-use Rattle.layout_rules.specs.Layout.{first, laid_out}
-use Rattle.layout_rules.specs.Values.{row_items, tree_items}
+use Rattle.layout_rules.specs.promise.Layout.{first, laid_out}
+use Rattle.layout_rules.specs.promise.Values.{row_items, tree_items}
 use Rattle.layout_rules.specs.Within.{ItemsWithin}
 use Rattle.arr_import.proofs.Reading.{row-field}
 use Rattle.arr_import.proofs.WholeRows.{row-long}

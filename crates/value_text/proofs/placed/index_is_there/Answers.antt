@@ -1,8 +1,9 @@
 use Rattle.std.proofs.Common.{refl, sym, arith}
 use Rattle.std.proofs.lemmas.Grind.{merely}
-use Rattle.data_types.specs.Storage.{storage_of}
-use Rattle.raw_array.specs.Members.{members_of}
-use Rattle.data_types.specs.TypedView.{typed_of, kind_of}
+use Rattle.data_types.specs.promise.Storage.{storage_of}
+use Rattle.raw_array.specs.promise.Members.{members_of}
+use Rattle.data_types.specs.promise.TypedView.{typed_of}
+use Rattle.data_types.specs.TypedView.{kind_of}
 use Rattle.arr_import.proofs.Reading.{index-int, index-there, value-entry}
 use Rattle.value_text.proofs.placed.index_is_there.Goals as goal
 

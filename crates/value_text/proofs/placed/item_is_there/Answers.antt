@@ -1,9 +1,9 @@
 use Rattle.std.proofs.Common.{◌+◌, refl}
 use Rattle.std.proofs.lemmas.Grind.{merely}
-use Rattle.data_types.specs.Storage.{storage_of}
-use Rattle.raw_array.specs.Members.{members_of}
+use Rattle.data_types.specs.promise.Storage.{storage_of}
+use Rattle.raw_array.specs.promise.Members.{members_of}
 use Rattle.data_types.specs.TypedView.{kind_of}
-use Rattle.layout_rules.specs.Layout.{bytes, first}
+use Rattle.layout_rules.specs.promise.Layout.{bytes, first}
 use Rattle.arr_import.proofs.Reading.{item-there, kind-ok}
 use Rattle.value_text.proofs.placed.item_is_there.Goals as goal
 

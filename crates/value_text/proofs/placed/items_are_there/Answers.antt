@@ -1,11 +1,11 @@
 use Rattle.std.proofs.Common.{◌≡◌, ◌+◌, length, refl, arith}
 use Rattle.std.proofs.lemmas.Grind.{merely}
-use Rattle.data_types.specs.Storage.{storage_of}
-use Rattle.tree_model.specs.Tree.{child_at}
-use Rattle.raw_array.specs.Members.{members_of}
+use Rattle.data_types.specs.promise.Storage.{storage_of}
+use Rattle.tree_model.specs.promise.TreeParts.{child_at}
+use Rattle.raw_array.specs.promise.Members.{members_of}
 use Rattle.data_types.specs.TypedView.{kind_of, kids_of}
-use Rattle.layout_rules.specs.Layout.{bytes, first}
-use Rattle.layout_rules.specs.Values.{tree_items}
+use Rattle.layout_rules.specs.promise.Layout.{bytes, first}
+use Rattle.layout_rules.specs.promise.Values.{tree_items}
 use Rattle.arr_import.proofs.Reading.{one-child, are-items-there}
 use Rattle.value_text.proofs.placed.items_are_there.Goals as goal
 

@@ -1,16 +1,18 @@
 use Rattle.std.proofs.Common.{◌≡◌, ℕ, Bool, true, false, refl, subst, sym}
-use Rattle.data_types.specs.Value.{Value}
-use Rattle.data_types.specs.Value.Value.{Fields}
-use Rattle.data_types.specs.Value.{values}
-use Rattle.data_types.specs.Storage.{storage_of}
+use Rattle.data_types.specs.promise.Value.{Value}
+use Rattle.data_types.specs.promise.Value.Value.{Fields}
+use Rattle.data_types.specs.promise.Value.{values}
+use Rattle.data_types.specs.promise.Storage.{storage_of}
 use Rattle.data_types.specs.declared.storage.Storage.{Storage}
 use Rattle.data_types.specs.declared.storage.Storage.TheVariants as storages
-use Rattle.tree_model.specs.Tree.{trees, children_of}
-use Rattle.raw_array.specs.Members.{ArrayTree, members_of}
-use Rattle.data_types.specs.TypedView.{typed_of, kind_of, kids_of}
+use Rattle.tree_model.specs.promise.TreeData.{trees}
+use Rattle.tree_model.specs.promise.TreeParts.{children_of}
+use Rattle.raw_array.specs.promise.Members.{ArrayTree, members_of}
+use Rattle.data_types.specs.promise.TypedView.{typed_of}
+use Rattle.data_types.specs.TypedView.{kind_of, kids_of}
 use Rattle.data_types.specs.declared.typed.Typed.{Typed}
-use Rattle.layout_rules.specs.Layout.{is_valid}
-use Rattle.layout_rules.specs.Values.{readers, row_items, value_at}
+use Rattle.layout_rules.specs.promise.Layout.{is_valid}
+use Rattle.layout_rules.specs.promise.Values.{readers, row_items, value_at}
 use Rattle.arr_import.specs.StoredItems.{stored_item}
 use Rattle.arr_import.specs.Window.{IsStructValue}
 use Rattle.arr_import.proofs.Reading.{home-row, value-item, value-null}

@@ -1,6 +1,6 @@
 use Rattle.std.proofs.Common.{refl}
 use Rattle.std.proofs.lemmas.Grind.{merely}
-use Rattle.data_types.specs.Storage.{storage_of}
+use Rattle.data_types.specs.promise.Storage.{storage_of}
 use Rattle.data_types.specs.TypedView.{kind_of}
 use Rattle.arr_import.proofs.Reading.{one-child}
 use Rattle.value_text.proofs.placed.one_kid_is_there.Goals as goal

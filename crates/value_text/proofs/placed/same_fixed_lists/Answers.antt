@@ -1,14 +1,16 @@
 use Rattle.std.proofs.Common.{◌≡◌, ◌∙◌, ◌+◌, ◌*◌, ◌<◌, ◌≤◌, ℕ, suc, length, get_or, ap, refl, sym, subst, arith}
 use Rattle.std.proofs.Math.Nat.{suc-mul}
-use Rattle.data_types.specs.Storage.{storage_of}
-use Rattle.data_types.specs.Value.{values}
-use Rattle.data_types.specs.Value.Value.{Items}
+use Rattle.data_types.specs.promise.Storage.{storage_of}
+use Rattle.data_types.specs.promise.Value.{values}
+use Rattle.data_types.specs.promise.Value.Value.{Items}
 use Rattle.data_types.specs.declared.storage.Storage.{Storage}
-use Rattle.data_types.specs.TypedView.{kind_of, kids_of, typed_of}
-use Rattle.tree_model.specs.Tree.{Released, child_at, children_of, trees}
-use Rattle.raw_array.specs.Members.{members_of}
-use Rattle.layout_rules.specs.Layout.{bytes, first}
-use Rattle.layout_rules.specs.Values.{child_item, each, readers, tree_items, value_at}
+use Rattle.data_types.specs.promise.TypedView.{typed_of}
+use Rattle.data_types.specs.TypedView.{kind_of, kids_of}
+use Rattle.tree_model.specs.promise.TreeData.{Released, trees}
+use Rattle.tree_model.specs.promise.TreeParts.{child_at, children_of}
+use Rattle.raw_array.specs.promise.Members.{members_of}
+use Rattle.layout_rules.specs.promise.Layout.{bytes, first}
+use Rattle.layout_rules.specs.promise.Values.{child_item, each, readers, tree_items, value_at}
 use Rattle.arr_import.specs.StoredItems.{AreItemsThere}
 use Rattle.arr_import.proofs.Reading.{are-items-there, each-child}
 use Rattle.value_text.specs.Lengths.{Tells, IsNestedAt, text_length}

@@ -1,12 +1,14 @@
 use Rattle.std.proofs.Common.{◌≡◌, ◌∙◌, ◌+◌, ◌<◌, ℕ, List, length, get_or, ap, sym, subst, arith}
-use Rattle.data_types.specs.Value.{Value, values}
-use Rattle.data_types.specs.Value.Value.{Fields}
-use Rattle.tree_model.specs.Tree.{Released, child_at}
-use Rattle.raw_array.specs.Members.{members_of}
+use Rattle.data_types.specs.promise.Value.{Value, values}
+use Rattle.data_types.specs.promise.Value.Value.{Fields}
+use Rattle.tree_model.specs.promise.TreeData.{Released}
+use Rattle.tree_model.specs.promise.TreeParts.{child_at}
+use Rattle.raw_array.specs.promise.Members.{members_of}
 use Rattle.data_types.specs.declared.storage.Storage.{Storage}
-use Rattle.data_types.specs.TypedView.{typed_of, kids_of}
-use Rattle.layout_rules.specs.Layout.{first}
-use Rattle.layout_rules.specs.Values.{row_items, tree_items, value_at}
+use Rattle.data_types.specs.promise.TypedView.{typed_of}
+use Rattle.data_types.specs.TypedView.{kids_of}
+use Rattle.layout_rules.specs.promise.Layout.{first}
+use Rattle.layout_rules.specs.promise.Values.{row_items, tree_items, value_at}
 use Rattle.value_text.specs.Lengths.{AreFieldLengths, IsNestedAt, text_length}
 use Rattle.value_text.specs.declared.lengths.Lengths.{Lengths}
 use Rattle.value_text.proofs.LengthSums.{length-there, some-by}

@@ -1,7 +1,9 @@
 use Rattle.std.proofs.Common.{◌∙◌, ◌+◌, ◌<◌, ℕ, length, get_or, ap, sym, arith}
-use Rattle.tree_model.specs.Tree.{Released, child_at}
-use Rattle.data_types.specs.TypedView.{typed_of, kids_of}
-use Rattle.layout_rules.specs.Values.{row_items, tree_items, value_at}
+use Rattle.tree_model.specs.promise.TreeData.{Released}
+use Rattle.tree_model.specs.promise.TreeParts.{child_at}
+use Rattle.data_types.specs.promise.TypedView.{typed_of}
+use Rattle.data_types.specs.TypedView.{kids_of}
+use Rattle.layout_rules.specs.promise.Values.{row_items, tree_items, value_at}
 use Rattle.value_text.specs.Lengths.{text_length}
 use Rattle.value_text.specs.declared.lengths.Lengths.{Lengths}
 use Rattle.value_text.proofs.LengthSums.{are-reached, length-there}

@@ -1,12 +1,14 @@
 use Rattle.std.proofs.Common.{◌≡◌, ◌∙◌, ℕ, Bool, true, false, List, ap, refl}
-use Rattle.data_types.specs.Storage.{storage_of}
+use Rattle.data_types.specs.promise.Storage.{storage_of}
 use Rattle.data_types.specs.declared.storage.Storage.{Storage}
 use Rattle.data_types.specs.declared.storage.Storage.TheVariants as storages
-use Rattle.tree_model.specs.Tree.{trees, children_of}
-use Rattle.raw_array.specs.Members.{ArrayMembers, ArrayTree, members_of}
-use Rattle.data_types.specs.TypedView.{typed_of, kind_of, kids_of}
-use Rattle.layout_rules.specs.Layout.{is_valid}
-use Rattle.layout_rules.specs.Values.{Reader, readers, stored_item, value_at}
+use Rattle.tree_model.specs.promise.TreeData.{trees}
+use Rattle.tree_model.specs.promise.TreeParts.{children_of}
+use Rattle.raw_array.specs.promise.Members.{ArrayMembers, ArrayTree, members_of}
+use Rattle.data_types.specs.promise.TypedView.{typed_of}
+use Rattle.data_types.specs.TypedView.{kind_of, kids_of}
+use Rattle.layout_rules.specs.promise.Layout.{is_valid}
+use Rattle.layout_rules.specs.promise.Values.{Reader, readers, stored_item, value_at}
 use Rattle.arr_import.proofs.Reading.{value-item, value-null}
 use Rattle.value_text.specs.Lengths.{IsEmptyStorage, text_length}
 use Rattle.value_text.proofs.placed.texts_are_short.Goals as goal

@@ -1,6 +1,6 @@
 use Rattle.std.proofs.Common.{rules, ◌∙◌, ◌+◌, ◌<◌, ◌++◌, length, get_or, take, ap, sym, arith}
-use Rattle.data_types.specs.Value.{Null}
-use Rattle.layout_rules.specs.Values.{each, row_items, value_at}
+use Rattle.data_types.specs.promise.Value.{Null}
+use Rattle.layout_rules.specs.promise.Values.{each, row_items, value_at}
 use Rattle.arr_import.specs.Cols.{window_of}
 use Rattle.arr_import.specs.Window.{Window}
 use Rattle.value_text.specs.Behind.{item_text}

@@ -1,5 +1,5 @@
 use Rattle.std.proofs.Common.{[], ◌∷◌}
-use Rattle.data_types.specs.FieldText.{last_digits}
+use Rattle.data_types.specs.promise.FieldText.{last_digits}
 use Rattle.value_text.proofs.Parts.{both-appended}
 use Rattle.value_text.proofs.value.push_float.Goals as goal
 

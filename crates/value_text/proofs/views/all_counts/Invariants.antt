@@ -1,4 +1,4 @@
-use Rattle.raw_array.specs.Members.{members_of}
+use Rattle.raw_array.specs.promise.Members.{members_of}
 use Rattle.value_text.specs.Escapes.{AreEscapeCounts}
 use Rattle.value_text.proofs.views.all_counts.Given as goal
 

@@ -1,15 +1,16 @@
 use Rattle.std.proofs.Common.{◌≡◌, ◌∙◌, ℕ, List, refl}
-use Rattle.data_types.specs.Storage.{storage_of}
-use Rattle.data_types.specs.Value.Value.{Bytes}
+use Rattle.data_types.specs.promise.Storage.{storage_of}
+use Rattle.data_types.specs.promise.Value.Value.{Bytes}
 use Rattle.data_types.specs.declared.storage.Storage.{Storage}
 use Rattle.data_types.specs.declared.storage.Storage.TheVariants as storages
 use Rattle.data_types.specs.TypedView.{kind_of, kids_of}
-use Rattle.tree_model.specs.Tree.{children_of, trees}
-use Rattle.raw_array.specs.Members.{ArrayMembers, ArrayTree, members_of}
+use Rattle.tree_model.specs.promise.TreeParts.{children_of}
+use Rattle.tree_model.specs.promise.TreeData.{trees}
+use Rattle.raw_array.specs.promise.Members.{ArrayMembers, ArrayTree, members_of}
 use Rattle.arr_import.specs.StoredItems.{IsViewStorage}
 use Rattle.arr_import.proofs.Reading.{value-item, view-there}
-use Rattle.layout_rules.specs.Values.{Reader, readers, stored_item}
-use Rattle.layout_rules.specs.Views.{view_data}
+use Rattle.layout_rules.specs.promise.Values.{Reader, readers, stored_item}
+use Rattle.layout_rules.specs.promise.Views.{view_data}
 use Rattle.value_text.proofs.views.view_is_there.Goals as goal
 
 view-item : (s : Storage) (kids : List Reader) (own : ArrayMembers) (children : List ArrayTree) (i : ℕ) → IsViewStorage s

@@ -1,5 +1,5 @@
-use Rattle.data_types.specs.TypedView.{typed_of}
-use Rattle.layout_rules.specs.Values.{value_at}
+use Rattle.data_types.specs.promise.TypedView.{typed_of}
+use Rattle.layout_rules.specs.promise.Values.{value_at}
 use Rattle.value_text.specs.Lengths.{AreLengths}
 use Rattle.value_text.proofs.views.view_lengths.Given as goal
 

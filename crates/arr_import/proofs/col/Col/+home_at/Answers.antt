@@ -1,5 +1,5 @@
 use Rattle.std.proofs.Common.{refl, ap, sym, ◌∙◌, true≢false, arith}
-use Rattle.data_types.specs.TypedView.{typed_of}
+use Rattle.data_types.specs.promise.TypedView.{typed_of}
 use Rattle.arr_import.specs.Window.{Home, home_of}
 use Rattle.arr_import.specs.Cols.{window_of}
 use Rattle.arr_import.proofs.Reading.{home-entry, home-null, home-plain, fewer-levels}

@@ -1,9 +1,9 @@
 use Rattle.std.proofs.Common.{◌<◌, length, sym, subst, arith}
 use Rattle.std.proofs.lemmas.List.{length-map}
-use Rattle.tree_model.specs.Tree.{child_at}
+use Rattle.tree_model.specs.promise.TreeParts.{child_at}
 use Rattle.data_types.specs.declared.typed.Typed.{out-Typed}
-use Rattle.data_types.specs.TypedView.{typed_of}
-use Rattle.layout_rules.specs.Walk.{LayoutOk}
+use Rattle.data_types.specs.promise.TypedView.{typed_of}
+use Rattle.layout_rules.specs.promise.Walk.{LayoutOk}
 use Rattle.arr_import.proofs.Reading.{kid-ok, kid-tree}
 use Rattle.arr_import.proofs.col.Col.child_items.Goals as goal
 

@@ -1,6 +1,6 @@
 use Rattle.std.proofs.Common.{◌≡◌, ◌+◌, ℕ, map, take}
 use Rattle.std.specs.List.{All}
-use Rattle.layout_rules.specs.Values.{row_items}
+use Rattle.layout_rules.specs.promise.Values.{row_items}
 use Rattle.arr_import.specs.Cols.{window_of}
 use Rattle.arr_import.specs.Window.{item_at}
 use Rattle.arr_import.proofs.col.Col.columns.Given as goal

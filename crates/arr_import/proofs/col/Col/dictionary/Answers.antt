@@ -1,7 +1,7 @@
 use Rattle.std.proofs.Common.{◌≡◌, Some, sym, subst}
 use Rattle.data_types.specs.declared.typed.Typed.{out-Typed}
 use Rattle.data_types.specs.KindTrees.{NodesOk}
-use Rattle.data_types.specs.TypedView.{typed_of}
+use Rattle.data_types.specs.promise.TypedView.{typed_of}
 use Rattle.arr_import.proofs.Reading.{dict-ok}
 use Rattle.arr_import.proofs.col.Col.dictionary.Goals as goal
 

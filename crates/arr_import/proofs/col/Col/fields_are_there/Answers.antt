@@ -1,10 +1,12 @@
 use Rattle.std.proofs.Common.{◌≡◌, ℕ, ◌+◌, ◌<◌, ◌≤◌, length, get_or, ap, ◌∙◌, sym, subst, arith}
-use Rattle.tree_model.specs.Tree.{Released, child_at, children_of}
-use Rattle.raw_array.specs.Members.{members_of}
-use Rattle.data_types.specs.TypedView.{typed_of, kids_of}
-use Rattle.layout_rules.specs.Layout.{first, end}
-use Rattle.layout_rules.specs.Rules.{items_need}
-use Rattle.layout_rules.specs.Values.{value_at, tree_items}
+use Rattle.tree_model.specs.promise.TreeData.{Released}
+use Rattle.tree_model.specs.promise.TreeParts.{child_at, children_of}
+use Rattle.raw_array.specs.promise.Members.{members_of}
+use Rattle.data_types.specs.promise.TypedView.{typed_of}
+use Rattle.data_types.specs.TypedView.{kids_of}
+use Rattle.layout_rules.specs.promise.Layout.{first, end}
+use Rattle.layout_rules.specs.promise.Rules.{items_need}
+use Rattle.layout_rules.specs.promise.Values.{value_at, tree_items}
 use Rattle.arr_import.proofs.Reading.{struct-typed, kids-typed, row-field}
 use Rattle.arr_import.proofs.col.Col.fields_are_there.Goals as goal
 

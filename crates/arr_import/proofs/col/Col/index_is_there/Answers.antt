@@ -1,7 +1,7 @@
 use Rattle.std.proofs.Common.{◌≡◌, ◌+◌, ◌<◌, ap, ◌∙◌, sym, subst, arith}
-use Rattle.raw_array.specs.Members.{members_of}
+use Rattle.raw_array.specs.promise.Members.{members_of}
 use Rattle.data_types.specs.TypedView.{kind_of}
-use Rattle.layout_rules.specs.Values.{value_at, tree_items}
+use Rattle.layout_rules.specs.promise.Values.{value_at, tree_items}
 use Rattle.arr_import.specs.Cols.{window_of}
 use Rattle.arr_import.specs.StoredItems.{IsIndexThere}
 use Rattle.arr_import.specs.Window.{index_at}

@@ -1,8 +1,8 @@
 use Rattle.std.proofs.Common.{◌+◌, ◌<◌, arith}
-use Rattle.raw_array.specs.Members.{members_of}
+use Rattle.raw_array.specs.promise.Members.{members_of}
 use Rattle.data_types.specs.TypedView.{kind_of}
-use Rattle.layout_rules.specs.Layout.{first}
-use Rattle.layout_rules.specs.Values.{tree_items}
+use Rattle.layout_rules.specs.promise.Layout.{first}
+use Rattle.layout_rules.specs.promise.Values.{tree_items}
 use Rattle.arr_import.proofs.Reading.{item-there, kind-ok}
 use Rattle.arr_import.proofs.col.Col.item_is_there.Goals as goal
 

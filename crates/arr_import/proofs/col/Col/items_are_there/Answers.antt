@@ -1,9 +1,9 @@
 use Rattle.std.proofs.Common.{◌≡◌, ◌+◌, ◌<◌, length, arith}
-use Rattle.tree_model.specs.Tree.{child_at}
-use Rattle.raw_array.specs.Members.{members_of}
+use Rattle.tree_model.specs.promise.TreeParts.{child_at}
+use Rattle.raw_array.specs.promise.Members.{members_of}
 use Rattle.data_types.specs.TypedView.{kind_of, kids_of}
-use Rattle.layout_rules.specs.Layout.{first}
-use Rattle.layout_rules.specs.Values.{tree_items}
+use Rattle.layout_rules.specs.promise.Layout.{first}
+use Rattle.layout_rules.specs.promise.Values.{tree_items}
 use Rattle.arr_import.proofs.Reading.{one-child, are-items-there}
 use Rattle.arr_import.proofs.col.Col.items_are_there.Goals as goal
 

@@ -1,6 +1,6 @@
 use Rattle.std.proofs.Common.{◌≡◌, ◌+◌, sym, subst, true}
-use Rattle.layout_rules.specs.Layout.{is_valid}
-use Rattle.raw_array.specs.Members.{members_of}
+use Rattle.layout_rules.specs.promise.Layout.{is_valid}
+use Rattle.raw_array.specs.promise.Members.{members_of}
 use Rattle.arr_import.specs.Shown.{Shows}
 use Rattle.arr_import.proofs.Reading.{value-item}
 use Rattle.arr_import.proofs.col.Col.own_value.Goals as goal

@@ -1,7 +1,7 @@
 use Rattle.std.proofs.Common.{◌+◌, ◌<◌, ◌^◌, ℕ, rules, refl, arith}
 use Rattle.std.specs.Prelude.{IsTrue}
-use Rattle.raw_array.specs.Members.{members_of}
-use Rattle.layout_rules.specs.Layout.{first}
+use Rattle.raw_array.specs.promise.Members.{members_of}
+use Rattle.layout_rules.specs.promise.Layout.{first}
 use Rattle.arr_import.specs.declared.plain.Plain.{Plain}
 use Rattle.arr_import.specs.Plain.{IsPlainStorage}
 use Rattle.arr_import.proofs.PlainColumns.{Keeps, item-at, item-there-at}

@@ -1,5 +1,5 @@
 use Rattle.std.proofs.Common.{◌≡◌, ◌+◌, ◌∙◌, subst}
-use Rattle.data_types.specs.Value.{Value}
+use Rattle.data_types.specs.promise.Value.{Value}
 use Rattle.arr_import.specs.Window.{IsStructValue, item_at}
 use Rattle.arr_import.specs.Cols.{window_of}
 use Rattle.arr_import.proofs.Reading.{home-row}

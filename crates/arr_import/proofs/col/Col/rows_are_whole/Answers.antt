@@ -1,6 +1,7 @@
 use Rattle.std.proofs.Common.{◌≡◌, ◌∙◌, ◌+◌, length, ap, arith}
-use Rattle.data_types.specs.TypedView.{typed_of, kind_of, kids_of, dict_in}
-use Rattle.layout_rules.specs.Values.{row_items}
+use Rattle.data_types.specs.promise.TypedView.{typed_of}
+use Rattle.data_types.specs.TypedView.{kind_of, kids_of, dict_in}
+use Rattle.layout_rules.specs.promise.Values.{row_items}
 use Rattle.data_types.specs.declared.typed.Typed.{out-Typed}
 use Rattle.arr_import.proofs.Reading.{kids-typed}
 use Rattle.arr_import.proofs.WholeRows.{row-long}

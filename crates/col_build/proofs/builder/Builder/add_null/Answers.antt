@@ -1,6 +1,6 @@
 use Rattle.std.proofs.Common.{refl}
 use Rattle.std.proofs.lemmas.Result.{on_ok_weaker}
-use Rattle.data_types.specs.Value.{Null}
+use Rattle.data_types.specs.promise.Value.{Null}
 use Rattle.col_build.proofs.builder.Builder.add_null.Goals as goal
 
 pub returns-in-Truths-clause-added : goal.returns-in-Truths-clause-added

@@ -1,5 +1,5 @@
 use Rattle.std.proofs.Common.{◌+◌, refl, sym, subst, replicate, arith}
-use Rattle.data_types.specs.Value.{Null}
+use Rattle.data_types.specs.promise.Value.{Null}
 use Rattle.col_build.specs.Holding.{kept_offsets, offsets_in}
 use Rattle.col_build.specs.Settled.{IsNumbers}
 use Rattle.col_build.proofs.OneMore.{bits-held, more-holds, numbers-more}

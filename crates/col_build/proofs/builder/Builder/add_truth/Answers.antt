@@ -1,6 +1,6 @@
 use Rattle.std.proofs.Common.{refl}
 use Rattle.std.proofs.lemmas.Result.{on_ok_weaker}
-use Rattle.data_types.specs.Value.{Truth}
+use Rattle.data_types.specs.promise.Value.{Truth}
 use Rattle.col_build.proofs.OneMore.{truths-shape}
 use Rattle.col_build.proofs.builder.Builder.add_truth.Goals as goal
 

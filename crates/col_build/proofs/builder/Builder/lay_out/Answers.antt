@@ -1,10 +1,10 @@
 use Rattle.std.proofs.Common.{◌≡◌, ◌∙◌, ◌+◌, ◌++◌, ℕ, Bool, List, [], ◌∷◌, refl, sym, ap, subst, inl}
 use Rattle.std.specs.Prelude.{if◌then◌else◌, map, Option}
 use Rattle.buf_block.specs.declared.hold.BufView.{BufView}
-use Rattle.data_types.specs.Value.{bytes_of}
-use Rattle.unit_pass.specs.Tally.{risen}
+use Rattle.data_types.specs.promise.Value.{bytes_of}
+use Rattle.unit_pass.specs.promise.Tally.{risen}
 use Rattle.col_build.specs.Blocks.{AreAdded, count_if}
-use Rattle.col_build.specs.Encoding.{if_some}
+use Rattle.col_build.specs.promise.Encoding.{if_some}
 use Rattle.col_build.specs.Finished.{AreMade}
 use Rattle.col_build.proofs.FinishFacts.{IsBetween, blocks-between, blocks-in-place, held-between, held-in-place, none-in-place, offsets-held, same-but-holds, same-holds}
 use Rattle.col_build.proofs.MadeAhead.{whole_holds}

@@ -1,8 +1,9 @@
 use Rattle.std.proofs.Common.{◌≡◌, ◌∙◌, ◌∷◌, [], ◌++◌, ◌<◌, ◌^◌, ◌⊎◌, ℕ, List, length, ap, subst, sym, arith, length-append}
 use Rattle.std.proofs.lemmas.Result.{err_from_is_err_and}
 use Rattle.std.specs.Prelude.{Option, None, Some}
-use Rattle.data_types.specs.FieldText.{form_of}
-use Rattle.col_build.specs.Encoding.{if_some, is_wide, push_fault}
+use Rattle.data_types.specs.promise.FieldText.{form_of}
+use Rattle.col_build.specs.promise.Encoding.{if_some, is_wide}
+use Rattle.col_build.specs.Encoding.{push_fault}
 use Rattle.col_build.specs.Holding.{HasBytes, HasValidity}
 use Rattle.col_build.specs.Items.{value_of}
 use Rattle.col_build.specs.declared.item.PushFault.{PushFault}

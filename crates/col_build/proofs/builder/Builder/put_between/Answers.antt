@@ -2,8 +2,8 @@ use Rattle.std.proofs.Common.{◌≡◌, ◌≤◌, ◌∙◌, ◌+◌, ◌*◌,
 use Rattle.std.proofs.lemmas.List.{length-take-le, take-take, take_at}
 use Rattle.std.proofs.lemmas.Result.{err_from_is_err_and}
 use Rattle.std.specs.Int.{from_bool}
-use Rattle.data_types.specs.Packed.{le_bytes}
-use Rattle.col_build.specs.Encoding.{if_some}
+use Rattle.data_types.specs.promise.Packed.{le_bytes}
+use Rattle.col_build.specs.promise.Encoding.{if_some}
 use Rattle.col_build.specs.Holding.{end_at}
 use Rattle.col_build.proofs.OneMore.{bits-held, more-holds, narrow-inside, narrow-more, narrow-same, total-small}
 use Rattle.col_build.proofs.ValidityFacts.{null-counted, nulls-few}

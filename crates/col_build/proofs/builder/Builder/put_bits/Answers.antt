@@ -1,6 +1,6 @@
 use Rattle.std.proofs.Common.{◌+◌, refl, arith}
-use Rattle.data_types.specs.Packed.{le_bytes}
-use Rattle.data_types.specs.Value.{Bits}
+use Rattle.data_types.specs.promise.Packed.{le_bytes}
+use Rattle.data_types.specs.promise.Value.{Bits}
 use Rattle.col_build.specs.Holding.{kept_offsets, offsets_in}
 use Rattle.col_build.proofs.OneMore.{are_floats, bits-held, more-holds, numbers-more}
 use Rattle.col_build.proofs.builder.Builder.put_bits.Goals as goal

@@ -2,7 +2,7 @@ use Rattle.std.proofs.Common.{◌≤◌, ◌∙◌, ◌+◌, ◌++◌, ◌∷◌
 use Rattle.std.proofs.lemmas.List.{length-map, map-append}
 use Rattle.std.specs.Int.{from_bool}
 use Rattle.std.specs.Prelude.{map}
-use Rattle.col_build.specs.Encoding.{bit_bytes, is_set}
+use Rattle.col_build.specs.promise.Encoding.{bit_bytes, is_set}
 use Rattle.col_build.specs.Holding.{HasBytes, HasValidity, bytes_in, offsets_in}
 use Rattle.col_build.specs.declared.shape.Shape.{Shape}
 use Rattle.col_build.proofs.OneMore.{bits-held, more-holds, truths-bits}

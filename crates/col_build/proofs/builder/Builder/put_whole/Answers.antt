@@ -1,7 +1,7 @@
 use Rattle.std.proofs.Common.{◌∙◌, ◌+◌, ◌*◌, refl, ap, arith}
 use Rattle.std.proofs.Math.Facts.{to_z-of_z}
-use Rattle.data_types.specs.FieldText.{in_range}
-use Rattle.data_types.specs.Value.{Whole}
+use Rattle.data_types.specs.promise.FieldText.{in_range}
+use Rattle.data_types.specs.promise.Value.{Whole}
 use Rattle.col_build.specs.Holding.{kept_offsets, offsets_in}
 use Rattle.col_build.proofs.OneMore.{are_wholes, bits-held, more-holds, numbers-more, whole-range}
 use Rattle.col_build.proofs.builder.Builder.put_whole.Goals as goal

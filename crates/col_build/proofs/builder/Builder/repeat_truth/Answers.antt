@@ -1,7 +1,7 @@
 use Rattle.std.proofs.Common.{◌∙◌, ◌++◌, refl, sym, subst, arith, inl, replicate}
 use Rattle.std.proofs.lemmas.List.{length-map, length-replicate}
 use Rattle.std.specs.Prelude.{map}
-use Rattle.col_build.specs.Encoding.{is_set}
+use Rattle.col_build.specs.promise.Encoding.{is_set}
 use Rattle.col_build.specs.Holding.{HasBytes}
 use Rattle.col_build.specs.declared.shape.Shape.{Shape}
 use Rattle.col_build.proofs.ManyTimes.{times-few, times-holds, truths-times}

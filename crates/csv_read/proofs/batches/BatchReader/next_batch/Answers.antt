@@ -1,7 +1,7 @@
 use Rattle.std.proofs.Common.{◌≡◌, ◌≤◌, ◌∙◌, Bool, List, Result, Ok, true, ap, length, subst, sym}
 use Rattle.col_build.specs.declared.builder.Builder.{Builder}
-use Rattle.csv_model.specs.Batches.{Chunks}
-use Rattle.data_types.specs.Table.{Row}
+use Rattle.csv_model.specs.promise.Batches.{Chunks}
+use Rattle.data_types.specs.promise.Table.{Row}
 use Rattle.csv_read.specs.BatchesLeft.{BatchesLeft, IsNextBatch, batches_left, behind, columns_in, first_rows, next_rows}
 use Rattle.csv_read.specs.Body.{HoldRows}
 use Rattle.csv_read.specs.declared.body.BodyFault.{BodyFault}

@@ -2,7 +2,7 @@ use Rattle.std.proofs.Common.{◌≡◌, ◌∙◌, true, sym, ap, subst, List, 
 use Rattle.std.specs.Prelude.{All}
 use Rattle.std.proofs.lemmas.Bool.{true≢false}
 use Rattle.csv.specs.Records.{fields_of}
-use Rattle.csv_model.specs.Reading.{Record}
+use Rattle.csv_model.specs.promise.Reading.{Record}
 use Rattle.csv_read.specs.RecordReader.{records_left}
 use Rattle.csv_read.specs.Texts.{AreTexts}
 use Rattle.csv_read.proofs.TextRecords.{both-parts}

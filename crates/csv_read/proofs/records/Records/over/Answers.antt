@@ -1,6 +1,6 @@
 use Rattle.std.proofs.Common.{◌≡◌, ◌∙◌, List, length, arith, sym, ap, subst}
 use Rattle.std.specs.Prelude.{All}
-use Rattle.csv_model.specs.Reading.{Record}
+use Rattle.csv_model.specs.promise.Reading.{Record}
 use Rattle.csv_read.specs.RecordReader.{records_left}
 use Rattle.csv_read.specs.Texts.{AreTexts}
 use Rattle.csv_read.proofs.TextRecords.{texts-read}

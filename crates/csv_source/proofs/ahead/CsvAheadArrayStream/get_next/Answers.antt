@@ -4,7 +4,7 @@ use Rattle.csv_source.proofs.PlainKinds.{plain-columns}
 use Rattle.csv_source.proofs.ChunkReplies.{no-refusal, refused-answers}
 use Rattle.csv_source.proofs.ChunkStreams.{refused-counts}
 use Rattle.csv_source.specs.declared.refused.Refused.{Refused}
-use Rattle.csv_model.specs.Header.{most_columns}
+use Rattle.csv_model.specs.promise.Header.{most_columns}
 use Rattle.data_types.specs.ColumnView.{column_of}
 use Rattle.data_types.specs.declared.kind.ColumnType.{ColumnType}
 use Rattle.stream_face.proofs.Producers.{given-answers, shows-no-link}

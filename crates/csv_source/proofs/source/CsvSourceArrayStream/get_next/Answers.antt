@@ -1,7 +1,7 @@
 use Rattle.std.proofs.lemmas.Grind.{common_steps}
 use Rattle.std.proofs.Common.{◌≡◌, ◌<◌, ◌^◌, ◌∙◌, ℕ, arith, None, Some, [], ap, inl, inr, refl, subst, sym, to_z, of_z, true≢false, w32}
 use Rattle.std.proofs.lemmas.Int.{ints}
-use Rattle.csv_model.specs.Batches.{Chunks}
+use Rattle.csv_model.specs.promise.Batches.{Chunks}
 use Rattle.csv_read.specs.BatchesLeft.{batches_left, columns_in}
 use Rattle.csv_source.specs.NextChunks.{IsNextChunk}
 use Rattle.csv_source.specs.Refusals.{row_of}

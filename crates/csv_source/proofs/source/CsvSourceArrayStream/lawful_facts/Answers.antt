@@ -1,7 +1,7 @@
 use Rattle.std.proofs.Common.{arith, ◌≤◌, map}
 use Rattle.std.proofs.lemmas.List.{length-map}
 use Rattle.data_types.specs.ColumnView.{column_of}
-use Rattle.schema_check.specs.ColumnSchema.{SchemaOf}
+use Rattle.schema_check.specs.promise.ColumnSchema.{SchemaOf}
 use Rattle.tree_model.specs.Tree.{Depth}
 use Rattle.csv_source.proofs.PlainKinds.{have-kinds, no-dicts, plain-columns, plain-leaves, proper-flat}
 use Rattle.csv_source.proofs.Tables.{left-lawful}

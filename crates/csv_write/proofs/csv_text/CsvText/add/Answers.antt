@@ -1,7 +1,7 @@
 use Rattle.std.proofs.Common.{◌∙◌, length, ap, sym, subst}
 use Rattle.std.specs.Prelude.{IfSome}
 use Rattle.std.proofs.lemmas.Result.{on_ok_weaker}
-use Rattle.tree_model.specs.Tree.{children_of}
+use Rattle.tree_model.specs.promise.TreeParts.{children_of}
 use Rattle.arr_import.specs.Cols.{window_of}
 use Rattle.csv_write.specs.CsvTexts.{IsFormOf}
 use Rattle.csv_write.specs.Readings.{ReadsChildren}

@@ -1,7 +1,7 @@
 use Rattle.std.proofs.Common.{◌∙◌, length, ap, sym, subst}
 use Rattle.std.specs.Prelude.{All}
 use Rattle.std.specs.List.{AllZip}
-use Rattle.tree_model.specs.Tree.{children_of}
+use Rattle.tree_model.specs.promise.TreeParts.{children_of}
 use Rattle.arr_import.specs.Cols.{window_of}
 use Rattle.csv_write.specs.ChunkTexts.{AreChildren, HasEntries}
 use Rattle.csv_write.specs.CsvTexts.{IsFormOf}

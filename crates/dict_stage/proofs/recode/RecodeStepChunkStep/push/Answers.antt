@@ -3,8 +3,9 @@ use Rattle.std.proofs.lemmas.List.{length-map}
 use Rattle.data_types.specs.ColumnView.{column_of}
 use Rattle.data_types.specs.declared.kind.ColumnType.{ColumnType}
 use Rattle.data_types.specs.declared.kind.DataType.{DataType}
-use Rattle.data_types.specs.TypedView.{typed_of}
-use Rattle.stage_model.specs.Typing.{column_at, is_struct}
+use Rattle.data_types.specs.promise.TypedView.{typed_of}
+use Rattle.stage_model.specs.promise.Typing.{is_struct}
+use Rattle.stage_model.specs.Typing.{column_at}
 use Rattle.dict_stage.specs.Recoded.{CanRecodeChunk, type_in}
 use Rattle.dict_stage.proofs.Streams.{can, columns-after, many, one, recode-gives, told-of, type-now}
 use Rattle.dict_stage.proofs.recode.RecodeStepChunkStep.push.Goals as goal

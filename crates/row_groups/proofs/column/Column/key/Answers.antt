@@ -1,8 +1,8 @@
 use Rattle.std.proofs.Common.{Some, List, ℕ, sym, subst}
-use Rattle.layout_rules.specs.Layout.{is_valid}
-use Rattle.tree_model.specs.Tree.{children_of}
-use Rattle.raw_array.specs.Members.{members_of}
-use Rattle.data_types.specs.KindTrees.{kind_in}
+use Rattle.layout_rules.specs.promise.Layout.{is_valid}
+use Rattle.tree_model.specs.promise.TreeParts.{children_of}
+use Rattle.raw_array.specs.promise.Members.{members_of}
+use Rattle.data_types.specs.promise.KindTrees.{kind_in}
 use Rattle.row_groups.specs.ItemKeys.{HasKey, array_of, item_of, stored_as, type_of}
 use Rattle.row_groups.proofs.StoredKeys.{flat-storage, has-bytes, has-truth, item-plain, null-key}
 use Rattle.row_groups.proofs.column.Column.key.Goals as goal

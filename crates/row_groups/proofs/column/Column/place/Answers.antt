@@ -1,10 +1,10 @@
 use Rattle.std.proofs.Common.{◌≡◌, ◌∙◌, ◌+◌, ◌*◌, sym, ap, subst, arith}
-use Rattle.layout_rules.specs.Layout.{first, layout_of}
+use Rattle.layout_rules.specs.promise.Layout.{first, layout_of}
 use Rattle.layout_rules.specs.Within.{StoredWithin}
 use Rattle.layout_rules.specs.declared.layout.Layout.{Layout}
 use Rattle.layout_rules.specs.declared.layout.Layout.TheVariants.{FixedWidth}
-use Rattle.raw_array.specs.Members.{members_of}
-use Rattle.data_types.specs.KindTrees.{kind_in}
+use Rattle.raw_array.specs.promise.Members.{members_of}
+use Rattle.data_types.specs.promise.KindTrees.{kind_in}
 use Rattle.data_types.specs.TypedView.{kind_of}
 use Rattle.row_groups.specs.ItemKeys.{array_of}
 use Rattle.row_groups.proofs.column.Column.place.Goals as goal

@@ -1,9 +1,9 @@
 use Rattle.std.proofs.Common.{◌≡◌, ◌∙◌, sym, ap}
-use Rattle.layout_rules.specs.Layout.{is_valid}
-use Rattle.data_types.specs.Storage.{storage_of}
-use Rattle.data_types.specs.KindTrees.{kind_in}
-use Rattle.tree_model.specs.Tree.{children_of}
-use Rattle.raw_array.specs.Members.{members_of}
+use Rattle.layout_rules.specs.promise.Layout.{is_valid}
+use Rattle.data_types.specs.promise.Storage.{storage_of}
+use Rattle.data_types.specs.promise.KindTrees.{kind_in}
+use Rattle.tree_model.specs.promise.TreeParts.{children_of}
+use Rattle.raw_array.specs.promise.Members.{members_of}
 use Rattle.row_groups.specs.ItemKeys.{array_of, item_of, stored_as, type_of}
 use Rattle.row_groups.proofs.StoredKeys.{item-plain, whole-key}
 use Rattle.row_groups.proofs.column.Column.whole_key.Goals as goal

@@ -1,7 +1,7 @@
 use Rattle.std.proofs.Common.{◌≡◌, ap, arith}
 use Rattle.arr_import.specs.Cols.{window_of}
 use Rattle.arr_import.specs.Window.{Window}
-use Rattle.run_ends.specs.Runs.{run_count}
+use Rattle.run_ends.specs.promise.Runs.{run_count}
 use Rattle.run_ends.specs.RunCols.{array_in}
 use Rattle.run_ends.proofs.column.RunCol.end_up_to.Goals as goal
 

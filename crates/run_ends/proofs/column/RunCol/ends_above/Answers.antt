@@ -1,9 +1,9 @@
 use Rattle.std.proofs.Common.{◌≡◌, ◌∙◌, ap, arith}
 use Rattle.arr_import.specs.Cols.{window_of}
 use Rattle.arr_import.specs.Window.{Window}
-use Rattle.data_types.specs.TypedView.{typed_of}
-use Rattle.tree_model.specs.Tree.{child_at}
-use Rattle.run_ends.specs.Runs.{Ends, ends_above, run_count}
+use Rattle.data_types.specs.promise.TypedView.{typed_of}
+use Rattle.tree_model.specs.promise.TreeParts.{child_at}
+use Rattle.run_ends.specs.promise.Runs.{Ends, ends_above, run_count}
 use Rattle.run_ends.specs.RunCols.{array_in}
 use Rattle.run_ends.proofs.Holding.{items-shown}
 use Rattle.run_ends.proofs.column.RunCol.ends_above.Goals as goal

@@ -1,5 +1,5 @@
 use Rattle.std.proofs.Common.{rules, ◌≡◌, ◌+◌, ◌-◌, ◌/◌, true, false, arith}
-use Rattle.run_ends.specs.Runs.{ends_in, ends_above, run_count}
+use Rattle.run_ends.specs.promise.Runs.{ends_in, ends_above, run_count}
 use Rattle.run_ends.specs.RunCols.{kinds_in, array_in}
 use Rattle.run_ends.proofs.Searching.{search_low, search_high}
 use Rattle.run_ends.proofs.column.RunCol.run_at.Goals as goal

@@ -1,5 +1,5 @@
 use Rattle.std.proofs.Common.{◌-◌}
-use Rattle.run_ends.specs.Runs.{ends_in, ends_above, run_count}
+use Rattle.run_ends.specs.promise.Runs.{ends_in, ends_above, run_count}
 use Rattle.run_ends.specs.RunCols.{kinds_in, array_in}
 use Rattle.run_ends.specs.RunHolds.{Parted}
 use Rattle.run_ends.proofs.column.RunCol.run_at.Given as goal

@@ -2,7 +2,7 @@ use Rattle.std.proofs.Common.{rules, ◌≡◌, ap, arith}
 use Rattle.std.proofs.lemmas.Grind.{common_steps}
 use Rattle.arr_import.specs.Cols.{window_of}
 use Rattle.arr_import.specs.Window.{Window}
-use Rattle.run_ends.specs.Runs.{run_count}
+use Rattle.run_ends.specs.promise.Runs.{run_count}
 use Rattle.run_ends.specs.RunCols.{array_in}
 use Rattle.run_ends.proofs.column.RunCol.run_count.Goals as goal
 

@@ -1,5 +1,5 @@
 use Rattle.std.proofs.Common.{sym}
-use Rattle.run_ends.specs.Runs.{ends_in, ends_above, run_count}
+use Rattle.run_ends.specs.promise.Runs.{ends_in, ends_above, run_count}
 use Rattle.run_ends.specs.RunCols.{kinds_in, array_in}
 use Rattle.run_ends.proofs.Searching.{parted_first}
 use Rattle.run_ends.proofs.column.RunCol.search_ended.Goals as goal

@@ -1,10 +1,11 @@
 use Rattle.std.proofs.Common.{rules, ◌≡◌, None, arith}
 use Rattle.std.proofs.lemmas.Grind.{common_steps}
 use Rattle.data_types.specs.declared.kind.DataType.TheVariants as kinds
-use Rattle.tree_model.specs.Tree.{Live, trees, absent}
-use Rattle.raw_array.specs.Members.{members_of}
-use Rattle.data_types.specs.TypedView.{typed_of, kids_of}
-use Rattle.layout_rules.specs.Layout.{buffer}
+use Rattle.tree_model.specs.promise.TreeData.{Live, trees, absent}
+use Rattle.raw_array.specs.promise.Members.{members_of}
+use Rattle.data_types.specs.promise.TypedView.{typed_of}
+use Rattle.data_types.specs.TypedView.{kids_of}
+use Rattle.layout_rules.specs.promise.Layout.{buffer}
 use Rattle.run_ends.proofs.ValueRuns.{all-empty}
 use Rattle.run_ends.proofs.column_runs.ColumnRuns.are_alike.Goals as goal
 

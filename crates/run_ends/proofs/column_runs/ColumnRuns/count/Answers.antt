@@ -1,7 +1,7 @@
 use Rattle.std.proofs.Common.{◌≡◌, ◌∙◌, ap, sym, arith}
-use Rattle.data_types.specs.TypedView.{typed_of}
+use Rattle.data_types.specs.promise.TypedView.{typed_of}
 use Rattle.arr_import.specs.Window.{Window}
-use Rattle.layout_rules.specs.Values.{tree_items}
+use Rattle.layout_rules.specs.promise.Values.{tree_items}
 use Rattle.run_ends.proofs.ValueRuns.{count-is}
 use Rattle.run_ends.proofs.column_runs.ColumnRuns.count.Goals as goal
 

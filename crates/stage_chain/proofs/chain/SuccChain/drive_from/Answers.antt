@@ -1,6 +1,6 @@
 use Rattle.std.proofs.lemmas.Grind.{common_steps}
 use Rattle.std.proofs.Common.{rules, arith, ◌≡◌, ◌∷◌, [], ◌∙◌, ap, subst, sym, IfErr, Some}
-use Rattle.raw_schema.specs.Members.{Nodes}
+use Rattle.tree_model.specs.promise.TreeCost.{Nodes}
 use Rattle.stages.specs.Structs.{column_structs}
 use Rattle.csv_write.specs.CsvTexts.{HasText}
 use Rattle.stage_model.specs.Links.{last_columns}

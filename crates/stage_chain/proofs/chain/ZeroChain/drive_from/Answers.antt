@@ -1,7 +1,7 @@
 use Rattle.std.proofs.lemmas.Grind.{common_steps}
 use Rattle.std.proofs.Common.{rules, arith, ◌≡◌, ◌≤◌, ◌∷◌, List, [], length, refl, subst, sym, IfErr, Some, ap, ◌∙◌}
-use Rattle.raw_schema.specs.Members.{Nodes}
-use Rattle.stage_model.specs.Typing.{Stage}
+use Rattle.tree_model.specs.promise.TreeCost.{Nodes}
+use Rattle.stage_model.specs.promise.Typing.{Stage}
 use Rattle.csv_write.specs.CsvTexts.{HasText}
 use Rattle.stage_model.specs.Links.{last_columns}
 use Rattle.stream_face.specs.Streams.{Stream}

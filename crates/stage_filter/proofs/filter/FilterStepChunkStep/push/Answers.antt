@@ -2,10 +2,10 @@ use Rattle.std.proofs.Common.{◌≡◌, ◌≤◌, ◌*◌, ◌∙◌, map, Lis
 use Rattle.std.proofs.Math.Nat.{mul-le-mul_right}
 use Rattle.data_types.specs.ColumnView.{column_of}
 use Rattle.data_types.specs.declared.kind.ColumnType.{ColumnType}
-use Rattle.data_types.specs.ColumnKinds.{type_of_columns}
-use Rattle.unit_pass.specs.Tally.{risen}
-use Rattle.raw_array.specs.Members.{Cost}
-use Rattle.stage_model.specs.Traffic.{Moved, table_blocks, table_nodes}
+use Rattle.data_types.specs.promise.ColumnKinds.{type_of_columns}
+use Rattle.unit_pass.specs.promise.Tally.{risen}
+use Rattle.raw_array.specs.promise.Members.{Cost}
+use Rattle.stage_model.specs.promise.Traffic.{Moved, table_blocks, table_nodes}
 use Rattle.stage_filter.specs.Filters.{CanFilter, passing_rows}
 use Rattle.stage_filter.specs.Plain.{most_of_columns}
 use Rattle.stage_filter.proofs.Filtered.{filter-gives, ready, ready-like, same, same-chunk}

@@ -1,7 +1,7 @@
 use Rattle.std.proofs.Common.{rules, arith, ◌≡◌, ◌∙◌, ◌++◌, map, subst, sym}
 use Rattle.data_types.specs.ColumnView.{column_of}
 use Rattle.data_types.specs.Parts.{AreWithin}
-use Rattle.data_types.specs.ColumnKinds.{type_of_columns}
+use Rattle.data_types.specs.promise.ColumnKinds.{type_of_columns}
 use Rattle.data_types.specs.KindTrees.{TypedOk}
 use Rattle.arr_move.specs.TreeActs.{Distinct}
 use Rattle.array_laws.specs.Picking.{Packed}

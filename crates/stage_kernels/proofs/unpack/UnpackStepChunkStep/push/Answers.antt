@@ -1,5 +1,5 @@
 use Rattle.std.proofs.Common.{rules}
-use Rattle.stage_model.specs.Typing.{no_column}
+use Rattle.stage_model.specs.promise.Typing.{no_column}
 use Rattle.stage_kernels.proofs.UnpackedChunks.{made_of, unpack-gives}
 use Rattle.stage_kernels.proofs.UnpackedStreams.{told}
 use Rattle.stage_kernels.proofs.unpack.UnpackStepChunkStep.push.Goals as goal

@@ -1,8 +1,8 @@
 use Rattle.std.proofs.Common.{◌≡◌, Ok, Err, refl}
 use Rattle.schema_check.specs.declared.schema.SchemaFault.{SchemaFault}
 use Rattle.schema_check.specs.declared.schema.SchemaFault.TheVariants.{At, NoMemory}
-use Rattle.data_types.specs.KindTrees.{KindTree}
-use Rattle.schema_check.specs.Schemas.{TypedOf}
+use Rattle.data_types.specs.promise.KindTrees.{KindTree}
+use Rattle.schema_check.specs.promise.Schemas.{TypedOf}
 use Rattle.schema_check.specs.SchemaAnswers.{Gives}
 use Rattle.stream_face.proofs.checked_schema.CheckedSchema.of.Goals as goal
 

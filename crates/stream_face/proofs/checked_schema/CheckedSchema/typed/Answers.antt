@@ -1,8 +1,8 @@
 use Rattle.std.proofs.Common.{rules, ◌≡◌, Result, Ok}
-use Rattle.data_types.specs.KindTrees.{KindTree}
-use Rattle.schema_check.specs.Schemas.{TypedOf}
-use Rattle.schema_check.specs.SchemaAnswers.{FirstFault}
-use Rattle.data_types.specs.TypedView.{typed_of}
+use Rattle.data_types.specs.promise.KindTrees.{KindTree}
+use Rattle.schema_check.specs.promise.Schemas.{TypedOf}
+use Rattle.schema_check.specs.promise.SchemaAnswers.{FirstFault}
+use Rattle.data_types.specs.promise.TypedView.{typed_of}
 use Rattle.stream_face.proofs.checked_schema.CheckedSchema.typed.Goals as goal
 
 pub returns-clause-only : goal.returns-clause-only

@@ -1,10 +1,10 @@
 use Rattle.std.proofs.lemmas.Grind.{common_steps}
 use Rattle.std.proofs.Common.{IsTrue, ◌≡◌, ◌∙◌, pos, w32, of_z, refl, sym, ap, subst, true≢false, arith}
-use Rattle.raw_schema.specs.Members.{Nodes}
-use Rattle.data_types.specs.ColumnKinds.{type_of_columns}
-use Rattle.schema_check.specs.ColumnSchema.{SchemaOf}
-use Rattle.schema_check.specs.Schemas.{TypedOf}
-use Rattle.layout_rules.specs.Walk.{ChunkOk}
+use Rattle.tree_model.specs.promise.TreeCost.{Nodes}
+use Rattle.data_types.specs.promise.ColumnKinds.{type_of_columns}
+use Rattle.schema_check.specs.promise.ColumnSchema.{SchemaOf}
+use Rattle.schema_check.specs.promise.Schemas.{TypedOf}
+use Rattle.layout_rules.specs.promise.Walk.{ChunkOk}
 use Rattle.stream_face.specs.Calls.{IsCode, IsRowFault, ShowsInOrder, Tells}
 use Rattle.stream_face.specs.Failures.{why}
 use Rattle.stream_face.specs.Raw.{refusal_or}

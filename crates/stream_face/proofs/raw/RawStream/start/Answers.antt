@@ -1,6 +1,6 @@
 use Rattle.std.proofs.Common.{◌∙◌, None, ap, of_z, refl, sym, subst, w32}
-use Rattle.schema_check.specs.Schemas.{TypedOf}
-use Rattle.data_types.specs.ColumnKinds.{type_of_columns}
+use Rattle.schema_check.specs.promise.Schemas.{TypedOf}
+use Rattle.data_types.specs.promise.ColumnKinds.{type_of_columns}
 use Rattle.stream_face.specs.Calls.{IsCode, Tells}
 use Rattle.stream_face.specs.Streams.{telling}
 use Rattle.stream_face.proofs.Joints.{tells_nothing}

@@ -1,6 +1,6 @@
 use Rattle.std.proofs.Common.{sym, subst}
-use Rattle.schema_check.specs.Schemas.{TypedOf}
-use Rattle.data_types.specs.ColumnKinds.{type_of_columns}
+use Rattle.schema_check.specs.promise.Schemas.{TypedOf}
+use Rattle.data_types.specs.promise.ColumnKinds.{type_of_columns}
 use Rattle.stream_face.proofs.raw.RawStream.typed.Goals as goal
 
 pub returns-clause-lawful : goal.returns-clause-lawful

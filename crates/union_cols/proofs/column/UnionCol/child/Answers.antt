@@ -1,5 +1,6 @@
 use Rattle.std.proofs.Common.{rules, ◌≡◌, ◌<◌, length, get_or}
-use Rattle.tree_model.specs.Tree.{children_of, Released}
+use Rattle.tree_model.specs.promise.TreeParts.{children_of}
+use Rattle.tree_model.specs.promise.TreeData.{Released}
 use Rattle.root_check.proofs.ChildFaults.{valid_kid}
 use Rattle.union_cols.proofs.Holding.{kid_lawful}
 use Rattle.union_cols.proofs.column.UnionCol.child.Goals as goal

@@ -1,7 +1,7 @@
 use Rattle.std.proofs.Common.{rules, ◌≡◌, None}
-use Rattle.raw_array.specs.Members.{members_of}
-use Rattle.layout_rules.specs.Layout.{items}
-use Rattle.union_cols.specs.Unions.{id_at, child_of}
+use Rattle.raw_array.specs.promise.Members.{members_of}
+use Rattle.layout_rules.specs.promise.Layout.{items}
+use Rattle.union_cols.specs.promise.Unions.{id_at, child_of}
 use Rattle.union_cols.proofs.Holding.{not_unnamed}
 use Rattle.union_cols.proofs.node.UnionNode.child_number.Goals as goal
 

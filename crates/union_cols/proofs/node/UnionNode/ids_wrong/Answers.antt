@@ -1,8 +1,8 @@
 use Rattle.std.proofs.Common.{rules, ◌≡◌, ◌<◌, None, Some, sym}
-use Rattle.raw_array.specs.Members.{members_of}
-use Rattle.layout_rules.specs.Layout.{items}
+use Rattle.raw_array.specs.promise.Members.{members_of}
+use Rattle.layout_rules.specs.promise.Layout.{items}
 use Rattle.layout_rules.proofs.Firsts.{first_below-none, first_below-some}
-use Rattle.union_cols.specs.UnionRules.{bad_id}
+use Rattle.union_cols.specs.promise.UnionRules.{bad_id}
 use Rattle.union_cols.proofs.node.UnionNode.ids_wrong.Goals as goal
 
 pub returns-in-Some : goal.returns-in-Some

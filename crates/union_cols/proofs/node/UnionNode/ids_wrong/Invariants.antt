@@ -1,7 +1,7 @@
 use Rattle.std.proofs.Common.{◌≡◌, None}
-use Rattle.raw_array.specs.Members.{members_of}
-use Rattle.layout_rules.specs.Rules.{first_below}
-use Rattle.union_cols.specs.UnionRules.{bad_id}
+use Rattle.raw_array.specs.promise.Members.{members_of}
+use Rattle.layout_rules.specs.promise.Rules.{first_below}
+use Rattle.union_cols.specs.promise.UnionRules.{bad_id}
 use Rattle.union_cols.proofs.node.UnionNode.ids_wrong.Given as goal
 
 abbrev pub invariant-loop-i : goal.invariant-loop-i

@@ -1,6 +1,6 @@
 use Rattle.std.proofs.Common.{◌≡◌, None}
-use Rattle.layout_rules.specs.Rules.{first_below}
-use Rattle.union_cols.specs.UnionRules.{bad_start}
+use Rattle.layout_rules.specs.promise.Rules.{first_below}
+use Rattle.union_cols.specs.promise.UnionRules.{bad_start}
 use Rattle.union_cols.proofs.node.UnionNode.starts_wrong.Given as goal
 
 abbrev pub invariant-loop-i : goal.invariant-loop-i

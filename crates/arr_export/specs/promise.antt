@@ -1,0 +1,2 @@
+pub mod ArrayTrees
+pub mod ValueColumns

@@ -1,0 +1,16 @@
+pub mod ColumnKinds
+pub mod ColumnView
+pub mod FieldText
+pub mod Groups
+pub mod KindTrees
+pub mod Kinds
+pub mod NumberedTexts
+pub mod Packed
+pub mod Parts
+pub mod Storage
+pub mod Table
+pub mod TypedView
+pub mod Value
+pub mod ValueTexts
+pub mod WayTexts
+pub mod Ways

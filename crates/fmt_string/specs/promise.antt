@@ -1,0 +1,3 @@
+pub mod FormatString
+pub mod Keywords
+pub mod Spelling

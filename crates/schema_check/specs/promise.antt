@@ -1,0 +1,4 @@
+pub mod ColumnSchema
+pub mod FaultTexts
+pub mod SchemaAnswers
+pub mod Schemas

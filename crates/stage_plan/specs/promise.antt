@@ -1,0 +1,4 @@
+pub mod Entries
+pub mod FaultTexts
+pub mod PlanWords
+pub mod Types

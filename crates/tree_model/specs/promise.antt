@@ -1,0 +1,3 @@
+pub mod TreeCost
+pub mod TreeData
+pub mod TreeParts

@@ -1,0 +1,5 @@
+pub mod Answers
+pub mod FaultTexts
+pub mod Report
+pub mod Standing
+pub mod TreeText
