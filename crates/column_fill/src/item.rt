@@ -165,29 +165,6 @@ fn item_in<'a>(items: &Plain<'a>, storage: Storage, i: u64) -> Item<'a>
     }
 }
 
-/// Adds an item that isn't null of a column that is read by its places.
-#[inline(always)]
-fn push_valid(
-    builder: &mut Builder,
-    storage: Storage,
-    items: &Plain<'_>,
-    i: u64,
-) -> Result<(), NoMemory>
-    requires there { IsItemThere items.now i }
-    requires stored { storage_in items.now ≡ storage }
-    requires takes { Takes builder.old storage (valid_item items.now i) }
-    ensures { OnOk result (Adds (valid_item items.now i) builder.old builder.new) }
-{
-    match storage {
-        Storage::Between { wide, .. } => builder.add_bytes(items.between(wide, i)),
-        Storage::Wholes { bits: 32, signed } => builder.add_whole(4, items.whole(32, signed, i)),
-        Storage::Wholes { bits: 64, signed } => builder.add_whole(8, items.whole(64, signed, i)),
-        Storage::Wholes { bits: 128, signed } => builder.add_whole(16, items.whole(128, signed, i)),
-        Storage::Truths => builder.add_truth(items.truth(i)),
-        _ => push(builder, storage, item_in(items, storage, i)),
-    }
-}
-
 /// Adds an item of a column that is read by its places. `storage` is how its items and the builder's values are stored. Where it is
 /// a constant, an item of a common type costs one test of its validity and the stores.
 ///
@@ -209,7 +186,14 @@ pub(crate) fn push_plain(
     if !items.is_valid(i) {
         return builder.add_null();
     }
-    push_valid(builder, storage, items, i)
+    match storage {
+        Storage::Between { wide, .. } => builder.add_bytes(items.between(wide, i)),
+        Storage::Wholes { bits: 32, signed } => builder.add_whole(4, items.whole(32, signed, i)),
+        Storage::Wholes { bits: 64, signed } => builder.add_whole(8, items.whole(64, signed, i)),
+        Storage::Wholes { bits: 128, signed } => builder.add_whole(16, items.whole(128, signed, i)),
+        Storage::Truths => builder.add_truth(items.truth(i)),
+        _ => push(builder, storage, item_in(items, storage, i)),
+    }
 }
 
 /// Adds an item of a column this many times. `storage` is how the builder's values are stored.
