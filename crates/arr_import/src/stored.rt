@@ -29,7 +29,7 @@ pub fn whole_at(stored: &[u8], place: u64, width: u8, signed: bool) -> i128
 
 /// The number without sign at a place, of a width of at most 8 bytes.
 #[inline(always)]
-pub fn bits_at(stored: &[u8], place: u64, width: u8) -> u64
+pub(crate) fn bits_at(stored: &[u8], place: u64, width: u8) -> u64
     requires width { IsWidth width }
     requires narrow { width ≢ 16 }
     requires within { (place + 1) * width ≤ length stored.now }
@@ -41,7 +41,7 @@ pub fn bits_at(stored: &[u8], place: u64, width: u8) -> u64
 
 /// The bytes at a place, of items of a width in bytes.
 #[inline(always)]
-pub fn bytes_at(stored: &[u8], place: u64, width: u32) -> &[u8]
+pub(crate) fn bytes_at(stored: &[u8], place: u64, width: u32) -> &[u8]
     requires within { (place + 1) * width ≤ length stored.now }
     ensures { result.now ≡ take width (drop (place * width) stored.now) }
 {
@@ -62,7 +62,7 @@ pub fn start_at(wide: bool, offsets: &[u8], place: u64) -> u64
 
 /// The bytes between the offset at a place and the next one ("Arrow Columnar Format", "Variable-size binary layout").
 #[inline(always)]
-pub fn text_at<'a>(wide: bool, offsets: &[u8], text: &'a [u8], place: u64) -> &'a [u8]
+pub(crate) fn text_at<'a>(wide: bool, offsets: &[u8], text: &'a [u8], place: u64) -> &'a [u8]
     requires there { (place + 1 + 1) * offset_width wide ≤ length offsets.now }
     requires from { pos 0 ≤ℤ offset_in wide offsets.now place }
     requires rise { offset_in wide offsets.now place ≤ℤ offset_in wide offsets.now (place + 1) }

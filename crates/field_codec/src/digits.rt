@@ -21,7 +21,7 @@ static DIGITS: [u8; 256] = [
 
 /// A number with the digits of a text behind it. Two or ten, as of hundredths and of fractions that fill a decimal, go without a loop.
 #[inline(always)]
-pub fn with_digits(number: u64, text: &[u8]) -> Option<u64>
+pub(crate) fn with_digits(number: u64, text: &[u8]) -> Option<u64>
     requires { (number + 1) * 10 ^ length text.now ≤ 10 ^ 18 }
     ensures digits { IfSome result (λ n. prefix_len is_ascii_digit text.now ≡ length text.now) }
     ensures value { IfSome result (λ n. n ≡ digits_value_after 10 number text.now) }
@@ -37,7 +37,7 @@ pub fn with_digits(number: u64, text: &[u8]) -> Option<u64>
 
 /// The same of a text that is mostly of few digits: each such count is a constant where its loop is inlined.
 #[inline(always)]
-pub fn with_few_digits(number: u64, text: &[u8]) -> Option<u64>
+pub(crate) fn with_few_digits(number: u64, text: &[u8]) -> Option<u64>
     requires { (number + 1) * 10 ^ length text.now ≤ 10 ^ 18 }
     ensures digits { IfSome result (λ n. prefix_len is_ascii_digit text.now ≡ length text.now) }
     ensures value { IfSome result (λ n. n ≡ digits_value_after 10 number text.now) }

@@ -12,7 +12,7 @@ pub const SHORT: usize = 19;
 
 /// The digits in front of a text: the number that they write, and how many there are.
 #[inline(always)]
-pub fn short_front(text: &[u8]) -> (u64, usize)
+pub(crate) fn short_front(text: &[u8]) -> (u64, usize)
     requires { length text.now ≤ SHORT }
     ensures count { result.1 ≡ prefix_len is_ascii_digit text.now }
     ensures value { result.0 ≡ digits_value 10 (take result.1 text.now) }
@@ -33,7 +33,7 @@ pub fn short_front(text: &[u8]) -> (u64, usize)
 const LAST_STEP: u128 = 10_000_000_000_000_000_000_000_000_000_000_000_000;
 
 /// The same of a text of any length, where the number has at most 38 digits.
-pub fn front(text: &[u8]) -> Option<(u128, usize)>
+pub(crate) fn front(text: &[u8]) -> Option<(u128, usize)>
     ensures count { IfSome result (λ r. r.1 ≡ prefix_len is_ascii_digit text.now) }
     ensures value { IfSome result (λ r. r.0 ≡ digits_value 10 (take r.1 text.now)) }
     ensures small { IfSome result (λ r. r.0 < 10 ^ 38) }
@@ -69,7 +69,7 @@ fn long_front(text: &[u8]) -> Option<(u128, usize)>
 
 /// Whether a text begins with `-`, and what is behind the sign where there is one.
 #[inline(always)]
-pub fn split_sign(text: &[u8]) -> (bool, &[u8])
+pub(crate) fn split_sign(text: &[u8]) -> (bool, &[u8])
     ensures minus { result.0 ≡ starts_with_minus text.now }
     ensures digits { result.1.now ≡ without_leading_sign text.now }
 {
@@ -82,7 +82,7 @@ pub fn split_sign(text: &[u8]) -> (bool, &[u8])
 
 /// The number of a numeral, where it fits 64 bits.
 #[inline(always)]
-pub fn magnitude(text: &[u8]) -> Option<u64>
+pub(crate) fn magnitude(text: &[u8]) -> Option<u64>
     ensures numeral { IfSome result (λ n. is_numeral text.now ≡ true) }
     ensures value { IfSome result (λ n. n ≡ digits_value 10 text.now) }
     ensures none { IfNone result ((is_numeral text.now ≡ false) ⊎ (2 ^ 64 ≤ digits_value 10 text.now)) }

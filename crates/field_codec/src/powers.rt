@@ -66,7 +66,7 @@ static LONG_POWERS: [u128; 39] = [
 ];
 
 /// A power that fits 64 bits.
-pub fn power(exponent: usize) -> u64
+pub(crate) fn power(exponent: usize) -> u64
     requires { exponent ≤ 18 }
     ensures { result ≡ 10 ^ exponent }
 {
@@ -74,7 +74,7 @@ pub fn power(exponent: usize) -> u64
 }
 
 /// A power up to that of the longest decimal.
-pub fn long_power(exponent: usize) -> u128
+pub(crate) fn long_power(exponent: usize) -> u128
     requires { exponent ≤ 38 }
     ensures { result ≡ 10 ^ exponent }
 {

@@ -5,7 +5,7 @@ use unit_pass::NoMemory;
 
 /// Gives a room this many bytes. A room that has them already stays as it is.
 #[inline(always)]
-pub fn sized(room: &mut Vec<u8>, count: usize) -> Result<(), NoMemory>
+pub(crate) fn sized(room: &mut Vec<u8>, count: usize) -> Result<(), NoMemory>
     ensures { IfOk result (λ _. length room.new.items ≡ count) }
 {
     if room.len() == count {

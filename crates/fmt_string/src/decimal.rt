@@ -52,7 +52,7 @@ fn behind_byte(byte: u8, text: &[u8]) -> Option<&[u8]>
 }
 
 /// The decimal type whose numbers are the whole text: a precision, a scale and perhaps a width.
-pub fn decimal(text: &[u8]) -> Result<DataType, Misread>
+pub(crate) fn decimal(text: &[u8]) -> Result<DataType, Misread>
     ensures found { IfOk result (DecimalIs text.now) }
     ensures within { IfErr result (λ e. e.place ≤ length text.now) }
     ensures fault { IfErr result (λ e. NumbersFail text.now e.rule e.place) }

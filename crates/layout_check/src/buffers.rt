@@ -47,7 +47,7 @@ fn data_need(wide: bool, node: &WellFormedNode) -> u128
     if offset < 0 { 0 } else { offset as u128 }
 }
 
-pub fn wide_need(end: u64, width: u32) -> u128
+pub(crate) fn wide_need(end: u64, width: u32) -> u128
     ensures need { result ≡ end * width }
     ensures bound { result < 2 ^ 97 }
 {
@@ -174,7 +174,7 @@ fn buffer_absent(node: &WellFormedNode, k: usize) -> Option<Numbers>
 }
 
 /// The first absent buffer of which something is needed.
-pub fn buffers_absent(node: &WellFormedNode) -> Option<Numbers>
+pub(crate) fn buffers_absent(node: &WellFormedNode) -> Option<Numbers>
     ensures { result ≡ first_below (buffer_absent node.now.layout (own_of node.now)) (buffer_count node.now.layout (length (own_of node.now).buffers)) }
 {
     for k in 0..node.buffer_count() {
@@ -186,7 +186,7 @@ pub fn buffers_absent(node: &WellFormedNode) -> Option<Numbers>
 }
 
 /// The first buffer that is shorter than its need.
-pub fn buffers_short(node: &WellFormedNode) -> Option<Numbers>
+pub(crate) fn buffers_short(node: &WellFormedNode) -> Option<Numbers>
     ensures { result ≡ first_below (buffer_short node.now.layout (own_of node.now)) (buffer_count node.now.layout (length (own_of node.now).buffers)) }
 {
     for k in 0..node.buffer_count() {
@@ -199,7 +199,7 @@ pub fn buffers_short(node: &WellFormedNode) -> Option<Numbers>
 
 /// Whether each buffer is there of which something is needed, and is as long as its need.
 #[inline(always)]
-pub fn buffers_pass(node: &WellFormedNode) -> bool
+pub(crate) fn buffers_pass(node: &WellFormedNode) -> bool
     ensures { IsTrue result ↔ AreReadable node.now.layout (own_of node.now) }
 {
     for k in 0..node.buffer_count() {
@@ -223,7 +223,7 @@ fn buffer_passes(node: &WellFormedNode, k: usize) -> bool
 }
 
 /// The offset at a place of the offsets buffer.
-pub fn offset_of(wide: bool, node: &WellFormedNode, place: u64) -> i64
+pub(crate) fn offset_of(wide: bool, node: &WellFormedNode, place: u64) -> i64
     requires offsets { 1 < length (own_of node.now).buffers }
     requires long { (place + 1) * offset_width wide ≤ length (bytes (own_of node.now) 1) }
     ensures { result ≡ offset wide (own_of node.now) place }
@@ -232,7 +232,7 @@ pub fn offset_of(wide: bool, node: &WellFormedNode, place: u64) -> i64
 }
 
 /// The offset at the window's end, and 0 where no place lies before it.
-pub fn last_offset(wide: bool, node: &WellFormedNode) -> u128
+pub(crate) fn last_offset(wide: bool, node: &WellFormedNode) -> u128
     requires offsets { 1 < length (own_of node.now).buffers }
     requires long { offsets_need wide (end (own_of node.now)) ≤ length (bytes (own_of node.now) 1) }
     ensures last { result ≡ (if end (own_of node.now) == 0 then 0 else natural (offset wide (own_of node.now) (end (own_of node.now)))) }
@@ -273,7 +273,7 @@ fn offset_falls(wide: bool, node: &WellFormedNode, i: u64) -> Option<Numbers>
 }
 
 /// An offset below 0 at the first item, or the first item whose offset is above the next one.
-pub fn offsets_fall(wide: bool, node: &WellFormedNode) -> Option<Numbers>
+pub(crate) fn offsets_fall(wide: bool, node: &WellFormedNode) -> Option<Numbers>
     requires offsets { 1 < length (own_of node.now).buffers }
     requires long { offsets_need wide (end (own_of node.now)) ≤ length (bytes (own_of node.now) 1) }
     ensures { result ≡ offsets_fall wide (own_of node.now) }
@@ -319,7 +319,7 @@ fn offsets_pass(wide: bool, node: &WellFormedNode) -> bool
 /// Whether the offsets of a layout that has some pass, once its buffers are long enough.
 #[inline(always)]
 #[tactic(auto, using(layout_rules::proofs::Long::long))]
-pub fn layout_passes(node: &WellFormedNode) -> bool
+pub(crate) fn layout_passes(node: &WellFormedNode) -> bool
     requires buffers { AreReadable node.now.layout (own_of node.now) }
     ensures { result ≡ is_none (offsets_fall_if (is_behind_offsets node.now.layout) (own_of node.now)) }
 {
@@ -332,7 +332,7 @@ pub fn layout_passes(node: &WellFormedNode) -> bool
 
 /// The offsets of a layout that has some, once its buffers are long enough.
 #[tactic(auto, using(layout_rules::proofs::Long::long))]
-pub fn layout_falls(node: &WellFormedNode) -> Option<Numbers>
+pub(crate) fn layout_falls(node: &WellFormedNode) -> Option<Numbers>
     requires buffers { AreReadable node.now.layout (own_of node.now) }
     ensures { result ≡ offsets_fall_if (is_behind_offsets node.now.layout) (own_of node.now) }
 {

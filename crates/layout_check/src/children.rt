@@ -61,7 +61,7 @@ pub fn first_short(needed: u128, array: &RawArray) -> Option<Numbers>
 }
 
 /// The first child that is too short.
-pub fn children_short(node: &WellFormedNode) -> Option<Numbers>
+pub(crate) fn children_short(node: &WellFormedNode) -> Option<Numbers>
     requires buffers { AreReadable node.now.layout (own_of node.now) }
     ensures { result ≡ child_short (items_need node.now.layout (own_of node.now)) 0 (children_of node.now.array.now) }
 {

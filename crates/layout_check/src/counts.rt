@@ -45,7 +45,7 @@ pub fn wrong_count(found: usize, needed: usize) -> Option<Numbers>
 }
 
 /// The number of buffers is the layout's.
-pub fn buffers_wrong(layout: Layout, array: &RawArray) -> Option<Numbers>
+pub(crate) fn buffers_wrong(layout: Layout, array: &RawArray) -> Option<Numbers>
     requires { IsLive array.now }
     ensures passed { IfNone result (length (members_of array.now).buffers ≡ buffer_count layout (length (members_of array.now).buffers)) }
     ensures fault { result ≡ count_wrong (length (members_of array.now).buffers) (buffer_count layout (length (members_of array.now).buffers)) }
@@ -57,7 +57,7 @@ pub fn buffers_wrong(layout: Layout, array: &RawArray) -> Option<Numbers>
 }
 
 /// The number of children is the type's.
-pub fn children_wrong(kids: &Vec<Typed>, array: &RawArray) -> Option<Numbers>
+pub(crate) fn children_wrong(kids: &Vec<Typed>, array: &RawArray) -> Option<Numbers>
     requires { IsLive array.now }
     ensures fault { result ≡ count_wrong (length (children_of array.now)) (length kids.now.items) }
     ensures few { length (children_of array.now) < 2 ^ 32 - 1 }
@@ -66,7 +66,7 @@ pub fn children_wrong(kids: &Vec<Typed>, array: &RawArray) -> Option<Numbers>
 }
 
 /// A dictionary is there where the type has one.
-pub fn dictionary_wrong(dict: &Option<Box<Typed>>, array: &RawArray) -> Option<Numbers>
+pub(crate) fn dictionary_wrong(dict: &Option<Box<Typed>>, array: &RawArray) -> Option<Numbers>
     requires { IsLive array.now }
     ensures { result ≡ count_wrong (one_if (dictionary_of array.now)) (one_if dict.now) }
 {

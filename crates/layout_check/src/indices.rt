@@ -118,7 +118,7 @@ fn dictionary_total(array: &RawArray) -> Option<i64>
 
 /// The first valid index that is no place of the dictionary.
 #[tactic(auto, using(layout_rules::proofs::Long::valid))]
-pub fn indices_wrong(kind: &DataType, node: &WellFormedNode) -> Option<Numbers>
+pub(crate) fn indices_wrong(kind: &DataType, node: &WellFormedNode) -> Option<Numbers>
     requires layout { node.now.layout ≡ layout_of kind.now }
     requires type_ok { KindOk kind.now }
     requires buffers { AreReadable node.now.layout (own_of node.now) }

@@ -79,7 +79,7 @@ fn note_buffer(bytes: &[u8], k: usize, block: usize, marks: &mut [Mark], first: 
 }
 
 /// Notes the texts of all data buffers.
-pub fn note_all(node: &WellFormedNode, marks: &mut [Mark])
+pub(crate) fn note_all(node: &WellFormedNode, marks: &mut [Mark])
     requires buffers { 3 ≤ length (own_of node.now).buffers }
     requires lengths { lengths_need (own_of node.now) ≤ length (data_lengths (own_of node.now)) }
     requires named { AreThere (own_of node.now) }
@@ -115,7 +115,7 @@ fn lies_in_text(bytes: &[u8], k: usize, marks: &[Mark], from: usize, to: usize) 
 }
 
 /// This many bytes of a data buffer from a place on are text: by the table where it says so, else read as a whole.
-pub fn part_is_text(bytes: &[u8], k: usize, marks: &[Mark], from: usize, size: usize) -> bool
+pub(crate) fn part_is_text(bytes: &[u8], k: usize, marks: &[Mark], from: usize, size: usize) -> bool
     requires within { from + size ≤ length bytes.now }
     requires marks { MarksIn bytes.now k marks.now }
     ensures { IsTrue result → IsUtf8 (take size (drop from bytes.now)) }

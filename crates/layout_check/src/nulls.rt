@@ -14,7 +14,7 @@ use layout_rules::Numbers;
 /// How many items of the window are null.
 #[inline(always)]
 #[tactic(auto, using(crate::proofs::NullSums::nulls))]
-pub fn null_total(node: &WellFormedNode) -> u64
+pub(crate) fn null_total(node: &WellFormedNode) -> u64
     requires validity { 0 < length (own_of node.now).buffers }
     requires long { IsLongIfPresent (own_of node.now) }
     ensures { result ≡ null_total (own_of node.now) (items (own_of node.now)) }
@@ -29,7 +29,7 @@ pub fn null_total(node: &WellFormedNode) -> u64
 }
 
 /// An item is null where its bit is clear.
-pub fn is_valid(node: &WellFormedNode, i: u64) -> bool
+pub(crate) fn is_valid(node: &WellFormedNode, i: u64) -> bool
     requires inside { i < items (own_of node.now) }
     requires buffers { 0 < length (own_of node.now).buffers }
     requires long { IsLongIfPresent (own_of node.now) }
@@ -78,7 +78,7 @@ fn null_count_wrong(node: &WellFormedNode) -> Option<Numbers>
 
 /// The number of nulls, which is not tried where the layout has no buffer.
 #[tactic(auto, using(layout_rules::proofs::Long::valid, crate::proofs::NullSums::by_layout))]
-pub fn nulls_wrong(node: &WellFormedNode) -> Option<Numbers>
+pub(crate) fn nulls_wrong(node: &WellFormedNode) -> Option<Numbers>
     requires enough { first_below (buffer_short node.now.layout (own_of node.now)) (buffer_count node.now.layout (length (own_of node.now).buffers)) ≡ None }
     ensures { result ≡ null_count_wrong_in node.now.layout (own_of node.now) }
 {

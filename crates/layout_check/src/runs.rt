@@ -14,7 +14,7 @@ pub struct Run {
 
 /// A place at which a text may be cut.
 #[inline(always)]
-pub fn is_border(text: &[u8], place: usize) -> bool
+pub(crate) fn is_border(text: &[u8], place: usize) -> bool
     ensures { IsTrue result → IsCharBoundary text.now place }
 {
     if place >= text.len() {
@@ -38,7 +38,7 @@ fn border_from(text: &[u8], from: usize) -> usize
 }
 
 /// The text that begins at a place, as far as it goes.
-pub fn run_from(bytes: &[u8], from: usize) -> Run
+pub(crate) fn run_from(bytes: &[u8], from: usize) -> Run
     requires { from < length bytes.now }
     ensures run { IsRun bytes.now result }
     ensures order { from ≤ result.to }
@@ -57,7 +57,7 @@ pub fn run_from(bytes: &[u8], from: usize) -> Run
 
 /// What is behind the first border of a run, from a place on.
 #[tactic(auto, using(crate::proofs::TextRuns::cuts))]
-pub fn rest_of(bytes: &[u8], run: Run, place: usize) -> Run
+pub(crate) fn rest_of(bytes: &[u8], run: Run, place: usize) -> Run
     requires { IsRun bytes.now run }
     ensures { IsRun bytes.now result }
 {
@@ -73,7 +73,7 @@ pub fn rest_of(bytes: &[u8], run: Run, place: usize) -> Run
 
 /// A part of a buffer is text up to where a run begins in it, and the run goes on from there.
 #[tactic(auto, using(crate::proofs::TextRuns::parts))]
-pub fn goes_on(bytes: &[u8], run: Run, from: usize, to: usize) -> bool
+pub(crate) fn goes_on(bytes: &[u8], run: Run, from: usize, to: usize) -> bool
     requires order { from ≤ to }
     requires within { to ≤ length bytes.now }
     requires run { IsRun bytes.now run }

@@ -40,7 +40,7 @@ fn wide_rises(offsets: &[u8], start: usize, len: usize) -> bool
 }
 
 /// No item's offset is above the next one.
-pub fn offsets_rise(wide: bool, offsets: &[u8], start: usize, len: usize) -> bool
+pub(crate) fn offsets_rise(wide: bool, offsets: &[u8], start: usize, len: usize) -> bool
     requires fits { start + len + 1 < 2 ^ 64 }
     requires long { (start + len + 1) * offset_width wide ≤ length offsets.now }
     ensures { result ≡ is_none (first_below (falls_in wide offsets.now start) len) }
@@ -64,7 +64,7 @@ fn is_border(offset: i64, base: usize, text: &[u8]) -> bool
 
 /// Each offset, counted from a base on, is at a border of two characters of a text.
 #[tactic(auto, using(crate::proofs::Scanned::borders))]
-pub fn cut_between_characters(
+pub(crate) fn cut_between_characters(
     wide: bool,
     offsets: &[u8],
     start: usize,
@@ -103,7 +103,7 @@ fn inside(width: usize, signed: bool, stored: &[u8], start: usize, len: usize, t
 }
 
 /// Each index, valid or not, is a place of a dictionary of this many items.
-pub fn indices_inside(
+pub(crate) fn indices_inside(
     width: usize,
     signed: bool,
     stored: &[u8],

@@ -61,7 +61,7 @@ fn item_data<'a>(wide: bool, node: &WellFormedNode<'a>, i: u64) -> &'a [u8]
 }
 
 /// Bytes as a text, or how many of them, from the first on, are one.
-pub fn as_text(bytes: &[u8]) -> Result<&str, usize>
+pub(crate) fn as_text(bytes: &[u8]) -> Result<&str, usize>
     ensures { MatchResult result (λ text. (text.now ≡ bytes.now) × IsUtf8 bytes.now) (λ valid. ¬ (IsUtf8 bytes.now) × (valid ≡ utf8_valid_len bytes.now)) }
 {
     if bytes.len() < 64 {
@@ -76,7 +76,7 @@ pub fn as_text(bytes: &[u8]) -> Result<&str, usize>
     }
 }
 
-pub fn is_text(bytes: &[u8]) -> bool
+pub(crate) fn is_text(bytes: &[u8]) -> bool
     ensures { IsTrue result ↔ IsUtf8 bytes.now }
 {
     as_text(bytes).is_ok()
@@ -84,7 +84,7 @@ pub fn is_text(bytes: &[u8]) -> bool
 
 /// A text that isn't UTF-8.
 #[tactic(auto, using(layout_rules::proofs::TextData::utf8))]
-pub fn not_utf8(i: u64, text: &[u8]) -> Option<Numbers>
+pub(crate) fn not_utf8(i: u64, text: &[u8]) -> Option<Numbers>
     ensures { result ≡ fault_if (not (is_utf8 text.now)) i (pos (utf8_valid_len text.now)) (pos (length text.now)) }
 {
     match as_text(text) {
@@ -239,7 +239,7 @@ fn all_are_texts(wide: bool, node: &WellFormedNode) -> bool
 
 /// Whether each valid text is UTF-8.
 #[tactic(auto, using(layout_rules::proofs::Long::long))]
-pub fn texts_pass(kind: &DataType, node: &WellFormedNode) -> bool
+pub(crate) fn texts_pass(kind: &DataType, node: &WellFormedNode) -> bool
     requires layout { node.now.layout ≡ layout_of kind.now }
     requires buffers { AreReadable node.now.layout (own_of node.now) }
     requires rise { offsets_fall_if (is_behind_offsets node.now.layout) (own_of node.now) ≡ None }
@@ -255,7 +255,7 @@ pub fn texts_pass(kind: &DataType, node: &WellFormedNode) -> bool
 
 /// The first valid text that isn't UTF-8.
 #[tactic(auto, using(layout_rules::proofs::Long::long))]
-pub fn texts_wrong(kind: &DataType, node: &WellFormedNode) -> Option<Numbers>
+pub(crate) fn texts_wrong(kind: &DataType, node: &WellFormedNode) -> Option<Numbers>
     requires layout { node.now.layout ≡ layout_of kind.now }
     requires buffers { AreReadable node.now.layout (own_of node.now) }
     requires rise { offsets_fall_if (is_behind_offsets node.now.layout) (own_of node.now) ≡ None }

@@ -181,7 +181,7 @@ fn passed(node: &WellFormedNode) -> u64
 
 /// The first valid view whose bytes aren't UTF-8: none where the data buffers as a whole
 /// pass, else item by item, once those before it are passed by the table of the buffers' texts.
-pub fn view_text_wrong(node: &WellFormedNode) -> Option<Numbers>
+pub(crate) fn view_text_wrong(node: &WellFormedNode) -> Option<Numbers>
     requires buffers { 3 ≤ length (own_of node.now).buffers }
     requires validity { IsLongIfPresent (own_of node.now) }
     requires long { end (own_of node.now) * view_width ≤ length (bytes_at (own_of node.now) 1) }
@@ -199,7 +199,7 @@ pub fn view_text_wrong(node: &WellFormedNode) -> Option<Numbers>
 
 /// Whether each valid view's bytes are UTF-8. The place of a fault gets its room here, and so not at each node.
 #[inline(never)]
-pub fn view_texts_pass(node: &WellFormedNode) -> bool
+pub(crate) fn view_texts_pass(node: &WellFormedNode) -> bool
     requires buffers { 3 ≤ length (own_of node.now).buffers }
     requires validity { IsLongIfPresent (own_of node.now) }
     requires long { end (own_of node.now) * view_width ≤ length (bytes_at (own_of node.now) 1) }

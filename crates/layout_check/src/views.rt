@@ -20,7 +20,7 @@ use layout_rules::{Layout, Numbers};
 pub const MOST_IN_VIEW: i64 = 12;
 
 /// How many data buffers there are.
-pub fn data_buffers(node: &WellFormedNode) -> usize
+pub(crate) fn data_buffers(node: &WellFormedNode) -> usize
     requires buffers { 3 ≤ length (own_of node.now).buffers }
     ensures count { result ≡ data_buffers (own_of node.now) }
     ensures few { result < 2 ^ 32 }
@@ -29,7 +29,7 @@ pub fn data_buffers(node: &WellFormedNode) -> usize
 }
 
 /// What the lengths say of a data buffer.
-pub fn data_length(node: &WellFormedNode, k: usize) -> u64
+pub(crate) fn data_length(node: &WellFormedNode, k: usize) -> u64
     requires buffers { 3 ≤ length (own_of node.now).buffers }
     requires inside { k < data_buffers (own_of node.now) }
     requires lengths { lengths_need (own_of node.now) ≤ length (data_lengths (own_of node.now)) }
@@ -41,7 +41,7 @@ pub fn data_length(node: &WellFormedNode, k: usize) -> u64
 }
 
 /// A data buffer as far as its length goes.
-pub fn sized_data<'a>(node: &WellFormedNode<'a>, k: usize) -> &'a [u8]
+pub(crate) fn sized_data<'a>(node: &WellFormedNode<'a>, k: usize) -> &'a [u8]
     requires buffers { 3 ≤ length (own_of node.now).buffers }
     requires inside { k < data_buffers (own_of node.now) }
     requires few { k < 2 ^ 63 }
@@ -64,7 +64,7 @@ fn view_word(node: &WellFormedNode, i: u64, word: usize) -> i64
     offset_at(node.bytes(1), place * 4 + word, false)
 }
 
-pub fn view_length(node: &WellFormedNode, i: u64) -> i64
+pub(crate) fn view_length(node: &WellFormedNode, i: u64) -> i64
     requires buffers { 3 ≤ length (own_of node.now).buffers }
     requires inside { i < items (own_of node.now) }
     requires long { end (own_of node.now) * view_width ≤ length (bytes (own_of node.now) 1) }
@@ -73,7 +73,7 @@ pub fn view_length(node: &WellFormedNode, i: u64) -> i64
     view_word(node, i, 0)
 }
 
-pub fn view_buffer(node: &WellFormedNode, i: u64) -> i64
+pub(crate) fn view_buffer(node: &WellFormedNode, i: u64) -> i64
     requires buffers { 3 ≤ length (own_of node.now).buffers }
     requires inside { i < items (own_of node.now) }
     requires long { end (own_of node.now) * view_width ≤ length (bytes (own_of node.now) 1) }
@@ -82,7 +82,7 @@ pub fn view_buffer(node: &WellFormedNode, i: u64) -> i64
     view_word(node, i, 2)
 }
 
-pub fn view_offset(node: &WellFormedNode, i: u64) -> i64
+pub(crate) fn view_offset(node: &WellFormedNode, i: u64) -> i64
     requires buffers { 3 ≤ length (own_of node.now).buffers }
     requires inside { i < items (own_of node.now) }
     requires long { end (own_of node.now) * view_width ≤ length (bytes (own_of node.now) 1) }
@@ -177,7 +177,7 @@ fn misplaced(node: &WellFormedNode, i: u64) -> Option<Numbers>
 }
 
 /// The first valid view that names no data.
-pub fn first_misplaced(node: &WellFormedNode) -> Option<Numbers>
+pub(crate) fn first_misplaced(node: &WellFormedNode) -> Option<Numbers>
     requires buffers { 3 ≤ length (own_of node.now).buffers }
     requires validity { IsLongIfPresent (own_of node.now) }
     requires long { end (own_of node.now) * view_width ≤ length (bytes (own_of node.now) 1) }
@@ -193,7 +193,7 @@ pub fn first_misplaced(node: &WellFormedNode) -> Option<Numbers>
 }
 
 /// The bytes of an item.
-pub fn view_data<'a>(node: &WellFormedNode<'a>, i: u64) -> &'a [u8]
+pub(crate) fn view_data<'a>(node: &WellFormedNode<'a>, i: u64) -> &'a [u8]
     requires buffers { 3 ≤ length (own_of node.now).buffers }
     requires inside { i < items (own_of node.now) }
     requires long { end (own_of node.now) * view_width ≤ length (bytes (own_of node.now) 1) }
@@ -252,7 +252,7 @@ fn prefix_wrong(node: &WellFormedNode, i: u64) -> Option<Numbers>
 
 /// The first valid long view whose prefix isn't how its data begin, once each valid view names some.
 #[tactic(auto, using(layout_rules::proofs::Placed::placed))]
-pub fn first_wrong_prefix(node: &WellFormedNode) -> Option<Numbers>
+pub(crate) fn first_wrong_prefix(node: &WellFormedNode) -> Option<Numbers>
     requires buffers { 3 ≤ length (own_of node.now).buffers }
     requires validity { IsLongIfPresent (own_of node.now) }
     requires long { end (own_of node.now) * view_width ≤ length (bytes (own_of node.now) 1) }
@@ -296,7 +296,7 @@ fn all_prefixes_pass(node: &WellFormedNode) -> bool
 /// Whether views name data and have its prefixes, once the buffers are long enough.
 #[inline(always)]
 #[tactic(auto, using(layout_rules::proofs::Long::long))]
-pub fn views_pass(node: &WellFormedNode) -> bool
+pub(crate) fn views_pass(node: &WellFormedNode) -> bool
     requires buffers { AreReadable node.now.layout (own_of node.now) }
     ensures exact { result ≡ (is_none (views_misplaced node.now.layout (own_of node.now)) && is_none (prefixes_wrong node.now.layout (own_of node.now))) }
     ensures placed { IsTrue result → views_misplaced node.now.layout (own_of node.now) ≡ None }
@@ -309,7 +309,7 @@ pub fn views_pass(node: &WellFormedNode) -> bool
 
 /// The rule on the places of views, once the buffers are long enough.
 #[tactic(auto, using(layout_rules::proofs::Long::long))]
-pub fn views_misplaced(node: &WellFormedNode) -> Option<Numbers>
+pub(crate) fn views_misplaced(node: &WellFormedNode) -> Option<Numbers>
     requires buffers { AreReadable node.now.layout (own_of node.now) }
     ensures { result ≡ views_misplaced node.now.layout (own_of node.now) }
 {
@@ -321,7 +321,7 @@ pub fn views_misplaced(node: &WellFormedNode) -> Option<Numbers>
 
 /// The rule on prefixes, once each valid view names data.
 #[tactic(auto, using(layout_rules::proofs::Long::long))]
-pub fn prefixes_wrong(node: &WellFormedNode) -> Option<Numbers>
+pub(crate) fn prefixes_wrong(node: &WellFormedNode) -> Option<Numbers>
     requires buffers { AreReadable node.now.layout (own_of node.now) }
     requires placed { views_misplaced node.now.layout (own_of node.now) ≡ None }
     ensures { result ≡ prefixes_wrong node.now.layout (own_of node.now) }

@@ -5,6 +5,6 @@ use std::marker::Send;
 fn crosses<T: Send>(_value: &T) {}
 
 /// A tree may move to another thread.
-pub fn tree_crosses(tree: &RawArray) {
+pub(crate) fn tree_crosses(tree: &RawArray) {
     crosses(tree);
 }

@@ -156,7 +156,7 @@ fn node_line(bytes: &[u8], cursor: Cursor, level: u32) -> Result<(ArrayLine, Cur
 /// out.
 #[cycle(array)]
 #[tactic(auto, using(crate::proofs::ArrayNodes::steps))]
-pub fn array(
+pub(crate) fn array(
     alloc: Global,
     bytes: &[u8],
     cursor: Cursor,

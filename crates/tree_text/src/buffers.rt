@@ -104,7 +104,7 @@ fn added(
 
 /// This many buffers whose lines are from a cursor on, and the cursor behind them.
 #[tactic(auto, using(raw_array::proofs::Buffers::buffer_lists))]
-pub fn buffers(
+pub(crate) fn buffers(
     alloc: Global,
     bytes: &[u8],
     cursor: Cursor,

@@ -49,7 +49,7 @@ fn read_pairs(text: &[u8], room: &mut [u8]) -> bool
 
 /// The bytes that pairs of lower-case digits write.
 #[tactic(auto, using(crate::proofs::LowerHex::odd))]
-pub fn lower_hex(alloc: Global, text: &[u8]) -> Result<Option<Vec<u8>>, NoMemory>
+pub(crate) fn lower_hex(alloc: Global, text: &[u8]) -> Result<Option<Vec<u8>>, NoMemory>
     ensures { IfOk result (λ bytes. bytes_of bytes ≡ read_lower_hex text.now) }
 {
     if text.len() % 2 == 1 {

@@ -8,7 +8,7 @@ ghost use Rattle.tree_text.specs.promise.Answers.{most_lines};
 const MOST_LINES: u64 = 1 << 20;
 
 /// What precedes the first of a byte in a text, and what follows it.
-pub fn cut(text: &[u8], byte: u8) -> Option<(&[u8], &[u8])>
+pub(crate) fn cut(text: &[u8], byte: u8) -> Option<(&[u8], &[u8])>
     ensures parts { IfSome result (λ r. slice_split (λ b. b == byte) text.now ≡ r.0.now ∷ slice_split (λ b. b == byte) r.1.now) }
     ensures behind { IfSome result (λ r. r.1.now ≡ drop (length r.0.now + 1) text.now) }
     ensures inside { IfSome result (λ r. length r.0.now < length text.now) }
@@ -38,7 +38,7 @@ fn without_return(line: &[u8]) -> &[u8]
 }
 
 /// The line that begins at a place of a text, and the place where the next one begins.
-pub fn next_line(bytes: &[u8], at: usize) -> Option<(&[u8], usize)>
+pub(crate) fn next_line(bytes: &[u8], at: usize) -> Option<(&[u8], usize)>
     requires { at ≤ length bytes.now }
     ensures taken { IfSome result (λ r. lines (drop at bytes.now) ≡ r.0.now ∷ lines (drop r.1 bytes.now)) }
     ensures within { IfSome result (λ r. r.1 ≤ length bytes.now) }
@@ -55,7 +55,7 @@ pub fn next_line(bytes: &[u8], at: usize) -> Option<(&[u8], usize)>
 }
 
 /// Whether a text has at most 1,048,576 lines.
-pub fn has_few_lines(bytes: &[u8]) -> bool
+pub(crate) fn has_few_lines(bytes: &[u8]) -> bool
     ensures { IsTrue result ↔ (length (lines bytes.now) ≤ most_lines) }
 {
     let mut at = 0;

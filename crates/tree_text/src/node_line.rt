@@ -99,7 +99,7 @@ fn six_fields(letter: u8, line: &[u8]) -> Option<Fields<'_>>
 }
 
 /// A line of the schema tree, or `None` where it is none.
-pub fn schema_line(alloc: Global, line: &[u8]) -> Result<Option<SchemaLine>, NoMemory>
+pub(crate) fn schema_line(alloc: Global, line: &[u8]) -> Result<Option<SchemaLine>, NoMemory>
     ensures { IfOk result (λ told. option_map schema_told told ≡ read_schema_line line.now) }
 {
     if line == b"S !".as_slice() {
@@ -146,7 +146,7 @@ fn live_schema(alloc: Global, fields: &Fields<'_>) -> Result<Option<SchemaLine>,
 }
 
 /// A line of the array tree that is no buffer's, or `None` where it is none.
-pub fn array_line(line: &[u8]) -> Option<ArrayLine>
+pub(crate) fn array_line(line: &[u8]) -> Option<ArrayLine>
     ensures { option_map array_told result ≡ read_array_line line.now }
 {
     if line == b"A !".as_slice() {
@@ -180,7 +180,7 @@ fn live_array(fields: &Fields<'_>) -> Option<ArrayLine>
 }
 
 /// A buffer's line, or `None` where it is none.
-pub fn buffer_line(alloc: Global, line: &[u8]) -> Result<Option<BufferLine>, NoMemory>
+pub(crate) fn buffer_line(alloc: Global, line: &[u8]) -> Result<Option<BufferLine>, NoMemory>
     ensures { IfOk result (λ told. option_map buffer_told told ≡ read_buffer_line line.now) }
 {
     if line == b"B ~".as_slice() {

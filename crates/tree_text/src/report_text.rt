@@ -56,7 +56,7 @@ fn push_number(text: &mut Vec<u8>, number: i64) -> Result<(), NoMemory>
 }
 
 /// Appends the line of a node: the way to it, its format, its length and the number of its null items.
-pub fn push_line(
+pub(crate) fn push_line(
     alloc: Global,
     text: &mut Vec<u8>,
     path: &Path,

@@ -125,7 +125,7 @@ fn node_line(
 /// out.
 #[cycle(schema)]
 #[tactic(auto, using(crate::proofs::SchemaSteps::steps))]
-pub fn schema(
+pub(crate) fn schema(
     alloc: Global,
     bytes: &[u8],
     cursor: Cursor,

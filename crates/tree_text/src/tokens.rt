@@ -10,7 +10,7 @@ use std::alloc::Global;
 use unit_pass::NoMemory;
 
 /// Whether a byte stands for itself.
-pub fn is_plain(byte: u8) -> bool
+pub(crate) fn is_plain(byte: u8) -> bool
     ensures { result ≡ is_plain byte }
 {
     (33..=126).contains(&byte) && byte != b'%'
@@ -29,7 +29,7 @@ fn digit_value(digit: u8) -> u16
 }
 
 /// The upper-case digit of a value.
-pub fn upper_digit(value: u8) -> u8
+pub(crate) fn upper_digit(value: u8) -> u8
     requires { value < 16 }
     ensures { result ≡ digit_glyph true value }
 {
@@ -95,7 +95,7 @@ fn spelled_bytes(alloc: Global, text: &[u8]) -> Result<Option<Vec<u8>>, NoMemory
 }
 
 /// The bytes of a token that must be present.
-pub fn present(alloc: Global, text: &[u8]) -> Result<Option<Vec<u8>>, NoMemory>
+pub(crate) fn present(alloc: Global, text: &[u8]) -> Result<Option<Vec<u8>>, NoMemory>
     ensures { IfOk result (λ bytes. bytes_of bytes ≡ read_present text.now) }
 {
     match text {
@@ -105,7 +105,7 @@ pub fn present(alloc: Global, text: &[u8]) -> Result<Option<Vec<u8>>, NoMemory>
 }
 
 /// The bytes of a token, or that they are absent.
-pub fn token(alloc: Global, text: &[u8]) -> Result<Option<Option<Vec<u8>>>, NoMemory>
+pub(crate) fn token(alloc: Global, text: &[u8]) -> Result<Option<Option<Vec<u8>>>, NoMemory>
     ensures { IfOk result (λ bytes. option_map bytes_of bytes ≡ read_token text.now) }
 {
     if text == b"~".as_slice() {
