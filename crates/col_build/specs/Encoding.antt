@@ -7,7 +7,6 @@ use Rattle.data_types.specs.promise.Packed.{stored}
 use Rattle.data_types.specs.promise.FieldText.{Form, Truths, Wholes, FloatBits, Text, HexBytes, SizedHex, Decimals, form_of, in_range}
 use Rattle.data_types.specs.Kinds.{KindOk}
 use Rattle.data_types.specs.promise.Value.{Value, Null, Truth, Whole, Bits, Bytes}
-pub use Rattle.data_types.specs.promise.Value.{bytes_of, byte_total}
 pub use Rattle.data_types.specs.ColumnForms.{HasForm}
 use Rattle.data_types.specs.declared.kind.DataType.{DataType}
 use Rattle.col_build.specs.declared.item.PushFault.{PushFault}

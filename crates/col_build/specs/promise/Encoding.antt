@@ -5,7 +5,7 @@ use Rattle.std.specs.Prelude.{Option, None, Some}
 use Rattle.std.specs.List.{concat, flat_map}
 use Rattle.data_types.specs.promise.Packed.{le_bytes, stored, offset_width}
 use Rattle.data_types.specs.promise.FieldText.{Form, Truths, Wholes, FloatBits, Text, HexBytes, SizedHex, Decimals, form_of}
-use Rattle.data_types.specs.promise.Value.{Value, Null, Truth, Whole, Bits, Bytes}
+use Rattle.data_types.specs.promise.Value.{Value, Null, Truth, Whole, Bits, Bytes, is_null, bytes_of}
 use Rattle.data_types.specs.declared.kind.DataType.{DataType}
 use Rattle.data_types.specs.declared.kind.DataType.TheVariants as kinds
 

@@ -1,6 +1,7 @@
 -- Rows that are grouped by the values of a column, and rows whose lists are spread out.
 use Rattle.std.specs.Prelude.{ℕ, ◌==◌, if◌then◌else◌, List, [], get_or, map}
 use Rattle.std.specs.List.{filter, flat_map}
+use Rattle.data_types.specs.promise.Groups.{same, distinct}
 use Rattle.data_types.specs.promise.Parts.{column_values, replaced, value_list}
 use Rattle.data_types.specs.promise.Table.{Row}
 use Rattle.data_types.specs.promise.Value.{Value, Null, Items, values}

@@ -22,6 +22,7 @@ use Rattle.tree_task.specs.promise.ForeignAnswer.{ForeignAnswer}
 use Rattle.tree_task.specs.promise.ListsAnswer.{ExplodeAnswer, NestAnswer}
 use Rattle.tree_task.specs.promise.RowsAnswer.{RowsAnswer}
 use Rattle.tree_task.specs.promise.RunsAnswer.{RunsAnswer}
+use Rattle.tree_task.specs.promise.TextOrFault.{Answer, Fault, Text}
 use Rattle.tree_task.specs.promise.TagAnswer.{TagAnswer}
 use Rattle.tree_task.specs.promise.UnionAnswer.{UnionAnswer}
 use Rattle.tree_task.specs.declared.command.Command.{Command}
