@@ -1,5 +1,4 @@
--- Columns and tables as array trees ("The Arrow C Data Interface", "The ArrowArray structure"; "Arrow Columnar Format",
--- "Dictionary-encoded Layout" and "Struct Layout").
+-- The type of a column, what indices into a dictionary are, which columns a table may have, and their rows.
 use Rattle.std.specs.Prelude.{◌≡◌, ◌≤◌, ◌<◌, ℕ, pos, List, [], ◌∷◌, map, get_or, Option, None, Some, All}
 use Rattle.data_types.specs.declared.kind.DataType.{DataType}
 use Rattle.data_types.specs.declared.kind.DataType.TheVariants as kinds

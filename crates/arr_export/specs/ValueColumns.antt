@@ -1,4 +1,4 @@
--- Columns that are made of values, with their types and their trees.
+-- The type, the tree and the items of a column of values, and which ones a table may have.
 use Rattle.std.specs.Prelude.{ℕ, ◌≤◌, List, length, map, Option, None, Some, All}
 use Rattle.std.specs.Option.{option_map}
 use Rattle.data_types.specs.promise.Value.{Value}

@@ -1,5 +1,4 @@
--- The encoding of a flat column: the buffers that its values make ("Arrow Columnar Format", "Validity bitmaps",
--- "Fixed-Size Primitive Layout", "Variable-size Binary Layout").
+-- Which values a column takes, why it doesn't take one, and the columns that have an encoding.
 use Rattle.std.specs.Prelude.{◌≡◌, ℕ, ◌+◌, ◌^◌, ◌≤◌, Bool, true, false, not, nat_lt, ◌==◌, ◌&&◌, if◌then◌else◌, List, [], length}
 use Rattle.std.specs.Prelude.{Option, None, Some, All}
 use Rattle.std.specs.Str.{is_utf8}

@@ -1,4 +1,4 @@
--- What a finished column is made of.
+-- When a finished column is the encoding of values: each of its buffers is the whole of a block.
 use Rattle.std.specs.Prelude.{◌≡◌, ℕ, pos, List, [], ◌∷◌, length, Option, None, Some}
 use Rattle.buf_block.specs.declared.hold.BufView.{BufView}
 use Rattle.buf_block.specs.declared.hold.TheConstants.{AMOUNT}

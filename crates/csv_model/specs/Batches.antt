@@ -1,4 +1,4 @@
--- The rows of a text in batches: chunks of at most this many rows, and how they end.
+-- The chunks that the rows of a text make, under a mark for null.
 use Rattle.std.specs.Prelude.{ℕ, List}
 use Rattle.data_types.specs.promise.Table.{Column}
 use Rattle.csv_model.specs.promise.Reading.{behind_header, records_of}

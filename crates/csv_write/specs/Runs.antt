@@ -1,4 +1,4 @@
--- A run over a stream to its end, call by call.
+-- How far a run over a stream has come between two moments, and what was counted.
 use Rattle.std.specs.Prelude.{◌≡◌, ◌+◌, ◌++◌, ℕ, List, Option, None}
 use Rattle.unit_pass.specs.promise.Tally.{risen}
 use Rattle.unit_pass.specs.Tally.{Tally}

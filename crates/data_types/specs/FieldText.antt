@@ -1,6 +1,4 @@
--- The text of a field: which value a field of a CSV record spells in a column of a type, and how a value is written. The
--- mark is the text that stands for a null, by default the empty one.
--- This is the table of the flat column kinds: each has a form, by how it is stored, and a form is read and written one way.
+-- The flat column kinds, and the values of each: their ranges and sizes.
 use Rattle.std.specs.Prelude.{◌≡◌, ◌⊎◌, ◌^◌, ◌<◌, ◌≤◌, nat_abs}
 use Rattle.std.specs.Prelude.{IsTrue, length, Option, None, Some}
 use Rattle.std.specs.List.{AllByRecursion}

@@ -1,4 +1,4 @@
--- The kinds of a schema that is in order, as a tree. No node of it is released.
+-- What holds of the kinds of a schema that is in order: their numbers, children, dictionaries and levels.
 use Rattle.std.specs.Prelude.{◌≤◌}
 use Rattle.data_types.specs.Kinds.{KindOk}
 use Rattle.data_types.specs.declared.kind.DataType.{DataType}

@@ -1,4 +1,4 @@
--- Which types there are, and which of them columns of a text may have.
+-- The ranges of a type's numbers, and the types that have a zone.
 use Rattle.std.specs.Prelude.{◌≡◌, ◌⊎◌, ◌<◌, ◌≤◌, ◌^◌, FitsSigned}
 use Rattle.std.specs.Int.{w32}
 use Rattle.data_types.specs.declared.kind.DataType.{DataType}

@@ -1,6 +1,4 @@
--- Bits and numbers as the Arrow Columnar Format lays them out ("Validity bitmaps", "Byte order", "Fixed-size primitive
--- layout"): bit j is bit `j % 8` of byte `j / 8`, the least significant first, and a number's least significant byte
--- comes first.
+-- How many of some bits are clear, and which numbers fit into how many bytes.
 use Rattle.std.specs.Prelude.{◌≡◌, ◌⊎◌, ℕ, zero, suc, ◌+◌, ◌-◌, ◌*◌, ◌^◌, ◌<◌, ℤ, pos, negsuc, List}
 use Rattle.data_types.specs.promise.Packed.{bit}
 

@@ -1,4 +1,4 @@
--- Parts of columns and rows by their numbers, from 0.
+-- Numbers that are those of items, and items of a struct that aren't null.
 use Rattle.std.specs.Prelude.{ℕ, ◌<◌, List, get_or, length}
 use Rattle.data_types.specs.promise.Value.{Value, Fields}
 

@@ -1,4 +1,4 @@
--- The kinds that the code keeps, as a tree.
+-- One level of the kinds that the code keeps: the node's own, its children's and its dictionary's.
 use Rattle.std.specs.Prelude.{List, map, Option, None, Some}
 use Rattle.std.specs.Global.{Box}
 use Rattle.data_types.specs.declared.kind.DataType.{DataType}

@@ -1,4 +1,4 @@
--- The text of a value, and that of the items of an array.
+-- How long the text of an item may be.
 use Rattle.std.specs.Prelude.{ℕ}
 
 -- ---- the items of an array

@@ -1,5 +1,4 @@
--- The layout of an array, by its type: how many buffers it has, what they need, and what its items are
--- ("Arrow Columnar Format", "Physical memory layout").
+-- Validity buffers that reach to the window's end.
 use Rattle.std.specs.Prelude.{ℕ, ◌*◌, ◌≤◌, List, length}
 use Rattle.std.specs.Prelude.{Option, Some, None}
 use Rattle.data_types.specs.promise.Packed.{bit}

@@ -1,4 +1,4 @@
--- The nodes in preorder, and the first fault.
+-- The first fault by where it is: in a node's own parts, its children or its dictionary; and how many items are null.
 use Rattle.std.specs.Prelude.{ℕ, suc, List, [], ◌∷◌, ◌++◌, Option, Some, None}
 use Rattle.std.specs.Option.{option_or}
 use Rattle.tree_model.specs.promise.TreeData.{Released, Live}

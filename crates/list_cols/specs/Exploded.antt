@@ -1,4 +1,4 @@
--- The array of a chunk's rows, of which the lists in one column are spread out.
+-- The type and the array of a chunk's rows, of which the lists in one column are spread out.
 use Rattle.std.specs.Prelude.{ℕ}
 use Rattle.raw_array.specs.promise.Members.{ArrayTree}
 use Rattle.data_types.specs.promise.KindTrees.{KindTree}

@@ -1,4 +1,4 @@
--- Which chunks aren't grouped, and of which the lists aren't spread out.
+-- What an answer of the code says of a fault.
 use Rattle.std.specs.Prelude.{◌≡◌, ◌≤◌, ◌<◌, ℕ, Option, None, Some}
 use Rattle.list_cols.specs.declared.fault.ListFault.{ListFault}
 use Rattle.list_cols.specs.declared.fault.ListFault.TheVariants.{NoMemory}

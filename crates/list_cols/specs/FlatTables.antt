@@ -1,4 +1,4 @@
--- A table of columns of flat types, made of rows.
+-- A table of flat columns as an array, and its kinds.
 use Rattle.std.specs.Prelude.{List, length, map, None}
 use Rattle.data_types.specs.declared.kind.DataType.{DataType}
 use Rattle.data_types.specs.promise.Table.{Row}

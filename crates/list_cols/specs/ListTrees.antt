@@ -1,4 +1,4 @@
--- A column of lists as an array tree, between offsets of 32 bits ("Arrow Columnar Format", "Variable-size List Layout").
+-- Lists as values, their kinds, and those that offsets of 32 bits reach.
 use Rattle.std.specs.Prelude.{◌<◌, ◌≤◌, false, List, [], ◌∷◌, length, None}
 use Rattle.data_types.specs.declared.kind.DataType.{DataType}
 use Rattle.data_types.specs.declared.kind.DataType.TheVariants as kinds

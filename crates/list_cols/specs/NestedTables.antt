@@ -1,4 +1,4 @@
--- The table of rows that are grouped by the values of a column: a column of its distinct values, and a list column for each other one.
+-- The kinds and the nodes of a table of grouped rows, and the rows of which one can be made.
 use Rattle.std.specs.Prelude.{◌≡◌, ◌≢◌, ◌+◌, ◌-◌, ◌*◌, ◌<◌, ◌≤◌, ℕ, ◌==◌, nat_lt, if◌then◌else◌, List, length, map, None}
 use Rattle.data_types.specs.declared.kind.DataType.{DataType}
 use Rattle.data_types.specs.promise.Table.{Row}

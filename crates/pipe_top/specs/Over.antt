@@ -1,4 +1,4 @@
--- What a run comes to over the bytes of its input: the answer, what the sink got of it, what the tap saw and what was made.
+-- What comes of carrying out what the words ask for, over the bytes of the input.
 use Rattle.std.specs.Prelude.{◌≡◌, ℕ, List, true, Option, Result, Ok, IfErr, IfOk, OnErr, OnOk}
 use Rattle.run_model.specs.promise.Answer.{Fault, Task}
 use Rattle.run_model.specs.promise.Outcomes.{AtWriteFault, is_decided}

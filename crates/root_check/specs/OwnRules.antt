@@ -1,5 +1,4 @@
--- What a root must meet whose type has no validity bitmap and no dictionary ("The Arrow C Data Interface", "The ArrowArray
--- structure"): the rules on its own numbers, and on how many parts it has.
+-- What holds of the numbers and parts of a root at which no rule fails.
 use Rattle.std.specs.Prelude.{◌≡◌, ℕ, pos, ◌≤ℤ◌, length}
 use Rattle.tree_model.specs.promise.TreeParts.{IsLive, children_of, dictionary_of}
 use Rattle.raw_array.specs.promise.Members.{ArrayTree, members_of}

@@ -1,5 +1,4 @@
--- What the schema of a root must meet whose type has no dictionary, besides its format ("The Arrow C Data Interface", "The
--- ArrowSchema structure"), and the kinds of its children.
+-- What an answer says of the schemas of a root's children.
 use Rattle.std.specs.Prelude.{List, Result, Ok, Err}
 use Rattle.std.specs.List.{AllZip}
 use Rattle.raw_schema.specs.promise.Members.{SchemaTree}

@@ -1,4 +1,4 @@
--- Which columns aren't made into runs, and which runs aren't made into a column ("Arrow Columnar Format", "Run-End Encoded Layout").
+-- Why runs aren't made into a column, and the fault of an answer.
 use Rattle.std.specs.Prelude.{ℕ, ◌^◌, ◌-◌, nat_lt, ◌&&◌, Bool, false, not, if◌then◌else◌, List, Option, None, Some, Result, Ok, Err}
 use Rattle.data_types.specs.promise.Value.{Value, byte_total}
 use Rattle.data_types.specs.declared.kind.DataType.{DataType}

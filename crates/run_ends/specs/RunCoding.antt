@@ -1,4 +1,4 @@
--- Values as runs ("Arrow Columnar Format", "Run-End Encoded Layout"), and the schema and the array of such runs.
+-- What a run is, and values as the schema and the array of runs ("Arrow Columnar Format", "Run-End Encoded Layout").
 use Rattle.std.specs.Prelude.{◌≡◌, ℕ, ◌+◌, pos, true, false, codes, List, [], ◌∷◌, length, map, get_or, drop, Some, None}
 use Rattle.data_types.specs.declared.kind.DataType.{DataType}
 use Rattle.data_types.specs.declared.kind.DataType.TheVariants as kinds

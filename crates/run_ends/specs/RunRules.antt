@@ -1,5 +1,4 @@
--- What a run-end encoded array must meet ("Arrow Columnar Format", "Run-End Encoded Layout"; "The Arrow C Data Interface", "The
--- ArrowArray structure"). Such an array has no buffers, and two children: the ends of its runs, and their values.
+-- The run-end encoded arrays at which no rule fails.
 use Rattle.std.specs.Prelude.{◌≡◌, None}
 use Rattle.raw_array.specs.promise.Members.{ArrayTree}
 use Rattle.run_ends.specs.promise.Runs.{RunTree}

@@ -1,4 +1,4 @@
--- Run-end encoded arrays ("Arrow Columnar Format", "Run-End Encoded Layout"): the runs, the run that an item lies in, and its value.
+-- What every call asks of the kinds of a run-end encoded array.
 use Rattle.data_types.specs.KindTrees.{TypedOk}
 use Rattle.run_ends.specs.promise.Runs.{IsEnds, RunTree}
 

@@ -1,5 +1,4 @@
--- What a run is asked for by its words, or why they are refused; the form of an answer; the fault of a run by those of its parts,
--- with the cause and the status of each.
+-- The fault of a run by that of a check, and a request for neither types nor stages.
 use Rattle.std.specs.Prelude.{ℕ, List, []}
 use Rattle.tree_check.specs.declared.fault.CheckFault.{CheckFault}
 use Rattle.tree_check.specs.declared.fault.CheckFault.TheVariants as check

@@ -1,4 +1,4 @@
--- What a run writes of its fault and of its audit, and what of that came to the sink of diagnostics.
+-- What a result says of a text that was to be written.
 use Rattle.std.specs.Prelude.{ℕ, ◌≤◌, List, Option, Result, Ok, Err, map}
 use Rattle.std.specs.List.{concat}
 use Rattle.std.specs.Borrow.{Bor}

@@ -1,4 +1,4 @@
--- The texts of faults.
+-- The text of what stands in the way of reading the words.
 use Rattle.std.specs.Prelude.{ℕ, List, codes}
 use Rattle.run_model.specs.declared.words.WordsError.{WordsError}
 use Rattle.run_model.specs.declared.words.WordsError.TheVariants as error

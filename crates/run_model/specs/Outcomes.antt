@@ -1,4 +1,4 @@
--- What a fault's cause says of it, and what the program has read of the words.
+-- What the code has read of the words, as the definitions see it.
 use Rattle.std.specs.Prelude.{List, Option, None, Some, Result, Ok, Err, Vec, ⊤}
 use Rattle.std.specs.Global.{Global}
 use Rattle.stage_plan.specs.declared.types.TypeEntry.{TypeEntry}

@@ -1,4 +1,4 @@
--- What a run answers: the text of the table that was read or the report of the tree that was checked, or the first fault.
+-- The input of a run, and inputs that are too long.
 use Rattle.std.specs.Prelude.{◌≡◌, ◌<◌, ℕ, List, length, Option, Some}
 use Rattle.run_model.specs.promise.Words.{made_of}
 use Rattle.run_model.specs.promise.RunAnswer.{AreBytes, input_by, input_limit}

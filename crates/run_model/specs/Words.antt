@@ -1,4 +1,4 @@
--- What the words of the command line mean: the matches that `clap` promises for a simple command and the rules on them, or a refusal.
+-- The options and the errors of the code, as the definitions see them.
 use Rattle.std.specs.Prelude.{◌≡◌, ◌≢◌, ⊤, false, map, Option}
 use Rattle.std.specs.Prelude.{option_map, Err}
 use Rattle.clap.specs.declared.error.kind.ErrorKind.{ErrorKind}

@@ -1,4 +1,4 @@
--- The texts of faults of schemas: the way to the node, and the rule's name.
+-- The text of a fault of the code's check of a schema.
 use Rattle.std.specs.Prelude.{ℕ, ◌++◌, List, codes}
 use Rattle.schema_check.specs.declared.schema.SchemaFault.{SchemaFault}
 use Rattle.schema_check.specs.declared.schema.SchemaFault.TheVariants as faults

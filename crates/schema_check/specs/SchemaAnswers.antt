@@ -1,4 +1,4 @@
--- What the answers of the check of a schema say, at a node, at its children, and of the whole.
+-- What the answers of the check of a schema say, of the whole and of the parts of a walk.
 use Rattle.std.specs.Prelude.{◌≡◌, ℕ, List, ◌∷◌, ◌++◌, Option, Result, Ok, Err}
 use Rattle.data_types.specs.declared.kind.DataType.{DataType}
 use Rattle.tree_model.specs.promise.TreeData.{trees, maybe_tree}

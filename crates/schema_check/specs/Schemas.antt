@@ -1,5 +1,4 @@
--- What a schema must meet at each node, the kinds of one that does, and the first fault of one that doesn't ("The Arrow C
--- Data Interface", "The ArrowSchema structure").
+-- The schemas at which no rule fails.
 use Rattle.raw_schema.specs.promise.Members.{SchemaTree}
 use Rattle.data_types.specs.promise.KindTrees.{KindTree}
 use Rattle.schema_check.specs.promise.Schemas.{TypedOf}

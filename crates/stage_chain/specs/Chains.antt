@@ -1,4 +1,4 @@
--- What a chain of stages over a stream shows and counts.
+-- A chain of stages over a stream: its links and rows, what they show, how they are made, and what is counted.
 use Rattle.std.specs.Prelude.{ℕ, ◌+◌, ◌==◌, if◌then◌else◌, List, [], ◌∷◌, Option, None, Some}
 use Rattle.csv_model.specs.promise.Batches.{Chunks}
 use Rattle.data_types.specs.promise.Parts.{joined_rows}

@@ -1,4 +1,4 @@
--- The texts of faults.
+-- The text of a fault of a plan.
 use Rattle.std.specs.Prelude.{ℕ, ◌++◌, List, codes, decimal}
 use Rattle.stage_model.specs.declared.fault.PlanFault.{PlanFault}
 use Rattle.stage_model.specs.declared.fault.PlanFault.TheVariants as plans

@@ -1,4 +1,4 @@
--- The links of a chain of stages, and the whole table that knows nothing of chunks.
+-- What comes out of the last stage; and that chunks of any size give the rows of the whole table.
 use Rattle.std.specs.Prelude.{◌≡◌, ℕ, List, [], ◌∷◌, None, Ok}
 use Rattle.csv_model.specs.promise.Batches.{Chunks, batches_in}
 use Rattle.csv_model.specs.promise.Reading.{Record, body}

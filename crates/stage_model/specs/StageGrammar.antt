@@ -1,5 +1,4 @@
--- The grammar of stage texts: a stage's name, `=`, and its arguments, which commas part. A name of a column is any text
--- without a comma; it may be empty.
+-- What a text is: a stage, or none for a fault.
 use Rattle.std.specs.Prelude.{◌≡◌, ℕ, List, Ok, Err}
 use Rattle.stage_model.specs.declared.fault.StageFault.{StageFault}
 use Rattle.stage_model.specs.declared.stage.StageText.{StageText}

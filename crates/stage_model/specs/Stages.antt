@@ -1,4 +1,4 @@
--- What a stage makes of a table, and of the chunks of a stream.
+-- Where the window of a slice begins and ends in a chunk.
 use Rattle.std.specs.Prelude.{ℕ, ◌+◌, ◌-◌, min}
 
 -- ---- slice

@@ -1,4 +1,4 @@
--- The typing of stages over columns: the step of each and the columns after it, or the first fault.
+-- Plans: the columns and the steps of stages, why texts are no stages, and which columns a step takes.
 use Rattle.std.specs.Prelude.{◌≡◌, ℕ, ◌<◌, true, List, ◌∷◌, get_or, map}
 use Rattle.std.specs.Prelude.{Ok, Err}
 use Rattle.std.specs.List.{flat_map, list_all}

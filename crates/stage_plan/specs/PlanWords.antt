@@ -1,4 +1,4 @@
--- What the code's plans are.
+-- What the code's plans are, and the places and kinds of their columns.
 use Rattle.std.specs.Prelude.{◌≡◌, ℕ, Bool, true, false, List, Option, ◌++◌, get_or, length, map}
 use Rattle.std.specs.Borrow.{Bor}
 use Rattle.std.specs.HashMap.{HashMap, get_by}

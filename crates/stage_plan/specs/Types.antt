@@ -1,4 +1,4 @@
--- The entries of a schema text, and its first fault.
+-- What an entry is, and what an answer says of all of them.
 use Rattle.std.specs.Prelude.{◌≡◌, ℕ, List, Option, Some, None, Result, Ok, Err, Vec}
 use Rattle.std.specs.Global.{Global}
 use Rattle.stage_plan.specs.declared.types.TypeEntry.{TypeEntry}

@@ -1,4 +1,4 @@
--- What the calls of a stream answer ("The Arrow C Stream Interface", "The ArrowArrayStream structure").
+-- What each call of a stream answers, shows and counts ("The Arrow C Stream Interface", "The ArrowArrayStream structure").
 use Rattle.std.specs.Prelude.{◌≡◌, ◌≢◌, ◌⊎◌, ◌+◌, ◌≤ℤ◌, ◌++◌, ℕ, ℤ, pos, List, [], ◌∷◌, Option, Some, None}
 use Rattle.data_types.specs.declared.row_fault.RowFault.{RowFault}
 use Rattle.data_types.specs.promise.Table.{Column, Row}

@@ -1,4 +1,4 @@
--- What a stream of chunks means ("The Arrow C Stream Interface").
+-- What a stream of chunks is, and what its calls keep of it ("The Arrow C Stream Interface").
 use Rattle.std.specs.Prelude.{◌≡◌, ℕ, Bool, true, false, if◌then◌else◌, List, [], ◌∷◌, Option, None, IsTrue}
 use Rattle.data_types.specs.declared.row_fault.RowFault.{RowFault}
 use Rattle.data_types.specs.promise.Table.{Column, Row}

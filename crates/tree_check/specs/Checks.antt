@@ -1,4 +1,4 @@
--- What the check of a text of trees comes to: a report, or the first fault of the text, of the schema or of the array.
+-- The faults of the parts as those of the check, and what an answer says of them.
 use Rattle.std.specs.Prelude.{Err}
 use Rattle.data_types.specs.promise.Ways.{steps_of}
 use Rattle.layout_rules.specs.Found.{fault_of}

@@ -1,4 +1,4 @@
--- The texts of faults.
+-- The text of a fault of the code's check.
 use Rattle.std.specs.Prelude.{ℕ, List, codes}
 use Rattle.tree_check.specs.declared.fault.CheckFault.{CheckFault}
 use Rattle.tree_check.specs.declared.fault.CheckFault.TheVariants as check

@@ -1,4 +1,4 @@
--- What a tree measures: its live nodes, the holds of their buffers, the units that both keep, and the levels of nodes.
+-- The live nodes of several trees, the levels of a tree, and the least of a number of its nodes.
 use Rattle.std.specs.Prelude.{ℕ, ◌+◌, max, min}
 use Rattle.tree_model.specs.promise.TreeData.{Tree, Released, Live, Trees, no_trees, more_trees, MaybeTree, absent, present}
 use Rattle.tree_model.specs.promise.TreeCost.{cost_of_all, cost_of_maybe, no_holds}

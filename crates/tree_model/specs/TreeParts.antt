@@ -1,4 +1,4 @@
--- The parts of a tree; those of a released one are empty.
+-- Parts that a tree may lack, as trees that are released.
 use Rattle.tree_model.specs.promise.TreeData.{Tree, Released, Live, MaybeTree, absent, present}
 
 abbrev pub tree_or_released : {M : Type 0} → MaybeTree M → Tree M

@@ -1,5 +1,4 @@
--- What the program for trees answers: the text of a command, or the first fault of the words, the input, its text, the schema and
--- the array.
+-- The answer to the words of a command line and the bytes of an input, and inputs that are too long.
 use Rattle.std.specs.Prelude.{◌<◌, ℕ, List, length, Option}
 pub use Rattle.tree_task.specs.promise.TextOrFault.{Answer, Fault, Text}
 use Rattle.tree_task.specs.promise.Answer.{AreBytes, IsAnswerTo, command_of, input_limit}

@@ -1,4 +1,4 @@
--- The cause of a fault, and its status.
+-- The fault of a result.
 use Rattle.std.specs.Prelude.{Option, None, Some, Result, Ok, Err}
 use Rattle.tree_task.specs.declared.fault.TreeRunFault.{TreeRunFault}
 

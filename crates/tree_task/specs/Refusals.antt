@@ -1,4 +1,4 @@
--- The fault of a run by that of a check. Out of memory is itself, and the way to a node has 0 in each place behind it.
+-- The faults of the code's checks, of texts, unions, columns and lists, as those of a run. Out of memory is itself.
 use Rattle.data_types.specs.promise.Ways.{path_of, steps_of}
 use Rattle.list_cols.specs.declared.fault.ListFault.{ListFault}
 use Rattle.list_cols.specs.declared.fault.ListFault.TheVariants as lists

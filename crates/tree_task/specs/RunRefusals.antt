@@ -1,5 +1,4 @@
--- The fault of a run by that of the schema or the array of a run-end encoded column. Out of memory is itself, and the way to
--- a node has 0 in each place behind it.
+-- The fault of the check of a run-end encoded schema, as that of a run. Out of memory is itself.
 use Rattle.data_types.specs.promise.Ways.{path_of, steps_of}
 use Rattle.run_ends.specs.declared.schema_fault.RunsSchemaFault.{RunsSchemaFault}
 use Rattle.run_ends.specs.declared.schema_fault.RunsSchemaFault.TheVariants as faults

@@ -1,4 +1,4 @@
--- What a text is, and which answers say so.
+-- What an answer says of a text of trees.
 use Rattle.std.specs.Prelude.{◌≡◌, Result, Ok, Err}
 use Rattle.raw_schema.specs.promise.Members.{SchemaTree}
 use Rattle.raw_array.specs.promise.Members.{ArrayTree}

@@ -1,4 +1,4 @@
--- Which line is allowed at a place of a text of trees, and the first line that isn't.
+-- The digits in a buffer's line.
 use Rattle.std.specs.Prelude.{ℕ, Bool, ◌||◌}
 use Rattle.std.specs.Int.{is_in_range}
 

@@ -1,5 +1,4 @@
--- The columns of a chunk as the children of a union ("Arrow Columnar Format", "Union Layout"): an item of the union is that of the
--- first column that isn't null there.
+-- The schema and the array of a chunk's columns as a union's children ("Arrow Columnar Format", "Union Layout").
 use Rattle.std.specs.Prelude.{ℕ, ℤ, pos, Bool, if◌then◌else◌, List, [], ◌∷◌, ◌++◌, length, map, flat_map, decimal}
 use Rattle.std.specs.Prelude.{Option, Some, None}
 use Rattle.data_types.specs.promise.Packed.{le_bytes}

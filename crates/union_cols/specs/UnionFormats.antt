@@ -1,5 +1,4 @@
--- The format strings of unions ("The Arrow C Data Interface", "Data type description -- format strings": `+ud:I,J,...` is a dense
--- union with these type ids, `+us:I,J,...` a sparse one).
+-- What a text is: the format string of a union, or none by its first fault.
 use Rattle.std.specs.Prelude.{ℕ, List}
 use Rattle.std.specs.Prelude.{Result, Ok, Err}
 use Rattle.union_cols.specs.promise.UnionFormats.{UnionFormat, UnionFormatFault, UnionFormatIs}

@@ -1,5 +1,4 @@
--- What a union's array must meet ("Arrow Columnar Format", "Union Layout"; "The Arrow C Data Interface", "The ArrowArray structure").
--- A union has no validity bitmap: buffer 0 is its types buffer.
+-- The unions at which no rule fails.
 use Rattle.std.specs.Prelude.{◌≡◌, None}
 use Rattle.raw_array.specs.promise.Members.{ArrayTree}
 use Rattle.union_cols.specs.promise.Unions.{UnionTree}

@@ -1,4 +1,4 @@
--- Unions ("Arrow Columnar Format", "Union Layout"): where an item is, and its value.
+-- What every call asks of the kinds of a union.
 use Rattle.std.specs.Prelude.{◌≡◌, length, All}
 use Rattle.data_types.specs.KindTrees.{TypedOk}
 use Rattle.union_cols.specs.promise.UnionFormats.{AreIds}

@@ -1,4 +1,4 @@
--- The columns that the code keeps, as columns of a table.
+-- Columns one behind the other, as the members of a struct.
 use Rattle.std.specs.Prelude.{List, [], ◌∷◌}
 use Rattle.data_types.specs.promise.Table.{Members, no_members, more_members, Column}
 

@@ -1,4 +1,4 @@
--- What the code's plans are.
+-- How many stages a plan may have.
 use Rattle.std.specs.Prelude.{ℕ}
 
 -- the most stages of a plan that is carried out

@@ -1,4 +1,4 @@
--- What the calls of a stream answer ("The Arrow C Stream Interface", "The ArrowArrayStream structure").
+-- In which order tables are seen, of which others are made.
 use Rattle.std.specs.Prelude.{◌≡◌, ◌++◌, ℕ, List, Option, Some, None}
 use Rattle.stream_face.specs.promise.Shown.{Seen, rows_of_link}
 use Rattle.stream_face.specs.promise.Streams.{Making}

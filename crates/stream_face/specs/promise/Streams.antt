@@ -1,4 +1,4 @@
--- What a stream of chunks means ("The Arrow C Stream Interface").
+-- How the tables of a stream are made of those of another.
 use Rattle.std.specs.Prelude.{ℕ, List}
 use Rattle.data_types.specs.promise.Table.{Row}
 

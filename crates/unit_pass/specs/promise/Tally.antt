@@ -1,4 +1,4 @@
--- What a contract sees of a pass: its units, and the counts of blocks and nodes.
+-- Counts that rise and stay at their last value.
 use Rattle.std.specs.Prelude.{ℕ, ◌+◌, ◌-◌, ◌^◌, min}
 
 -- the last value of a count
