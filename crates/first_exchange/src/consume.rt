@@ -20,7 +20,7 @@ use layout_rules::{lawful_root, lawful_trees};
 use raw_array::{Gone, PartlyMoved, RawArray};
 use std::alloc::Global;
 use std::thread::Threads;
-use tree_import::{Imported, import};
+use tree_check::{Imported, import};
 use unit_pass::{NoMemory, Pass, SUPPLY};
 
 /// Takes over a table from whoever made it. On each outcome both structures are released, once.

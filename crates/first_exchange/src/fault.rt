@@ -1,7 +1,7 @@
 //! Why an exchange failed.
 use col_build::PushFault;
 use std::{fmt, io};
-use tree_import::ImportFault;
+use tree_check::ImportFault;
 use unit_pass::NoMemory;
 
 /// Why the exchange failed. The one who answers it has released what it owned.

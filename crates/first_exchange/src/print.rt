@@ -8,7 +8,7 @@ use crate::fault::Fault;
 use arr_import::Col;
 use data_types::{DataType, kinds_of_typed};
 use std::str::from_utf8;
-use tree_import::Imported;
+use tree_check::Imported;
 
 /// Prints the rows of a table of two columns. The check says that the structures are lawful, and their kinds say what table it
 /// is: any other is refused here.

@@ -10,3 +10,6 @@ pub mod Flat
 mod Begun
 pub mod Carried
 mod MemoryFaults
+pub mod Kept
+pub mod NodeNames
+pub mod TypedKids

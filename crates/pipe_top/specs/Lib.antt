@@ -3,3 +3,5 @@ pub mod AnySteps
 pub mod Begun
 pub mod Over
 pub mod ChainFaults
+pub mod OwnedValues
+pub mod SeenChunks

@@ -16,10 +16,15 @@
 //! one answer. [`run_task`] does what the words ask for, by steps of any type; [`AnyStep`] is a step of any kind; [`drive`]
 //! is the chain of stages over a stream by these steps; [`run_to_exit`] answers the exit status of a process.
 //!
+//! A [`RecordTap`] keeps copies of the chunks that it is shown, in order (`specs/SeenChunks.antt`), for tests and small tables: of
+//! each the number of the link, the names of the schema, the kinds and the rows, each as a value of its own ([`SeenChunk`],
+//! [`OwnedValue`]). Where memory runs out, it keeps nothing of the chunk. A value takes a constant number of steps besides
+//! those of its own parts.
+//!
 //! Left to others: what the words ask for, the faults, the outcome and the lines (`run_model`), what CSV means
 //! (`csv_model`), what stages mean (`stage_model`) and how they are spelled (`stage_plan`), the source (`csv_source`), the
-//! chain of stages (`stage_chain`), the check of a tree (`tree_check`), the structures (`raw_schema`, `raw_array`), and
-//! sources and sinks of bytes (`edge_io`).
+//! chain of stages (`stage_chain`), the check of a tree (`tree_check`), the items of a chunk in place (`arr_import`), the
+//! structures (`raw_schema`, `raw_array`), and sources and sinks of bytes (`edge_io`).
 #![tactic(auto)]
 
 mod ahead;
@@ -28,7 +33,12 @@ mod any_step;
 mod carry;
 mod driven;
 mod exit;
+mod kept_kinds;
+mod kept_names;
+mod kept_rows;
 mod laws;
+mod owned_value;
+mod record_tap;
 mod top;
 mod worked;
 
@@ -38,6 +48,8 @@ pub use driven::drive;
 pub use exit::run_to_exit;
 pub use fan_out::Workers;
 pub use laws::{memory_stands_alone, one_answer, one_input};
+pub use owned_value::OwnedValue;
+pub use record_tap::{RecordTap, SeenChunk};
 pub use run_model::{Outcome, PlanRule, RunFault, StageFault, TreeFault, TypesRule, WordsFault};
 pub use stage_chain::DriveFault;
 pub use top::run;

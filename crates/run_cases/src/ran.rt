@@ -2,10 +2,9 @@
 use case_text::Plan;
 use data_types::Typed;
 use edge_io::{MemSink, OpenGate};
-use pipe_top::{Outcome, run};
+use pipe_top::{Outcome, RecordTap, run};
 use raw_array::RawArray;
 use raw_schema::RawSchema;
-use record_tap::RecordTap;
 use std::alloc::Global;
 use std::io;
 use std::thread::Threads;

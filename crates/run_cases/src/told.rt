@@ -1,8 +1,7 @@
 //! What came of a run, as answers.
 use crate::ran::Ran;
 use case_text::{Answers, spelling_of};
-use pipe_top::RunFault;
-use record_tap::{OwnedValue, SeenChunk};
+use pipe_top::{OwnedValue, RunFault, SeenChunk};
 use std::alloc::{AllocError, Global};
 
 /// The links of a run with sixteen stages.

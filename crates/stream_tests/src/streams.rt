@@ -107,7 +107,7 @@ fn table(rt: &impl Abort, alloc: Global, given: Given, pass: &mut Pass) -> RawAr
 }
 
 /// A schema of this format and name.
-pub(crate) fn field(
+fn field(
     rt: &impl Abort,
     alloc: Global,
     format: &[u8],

@@ -15,8 +15,7 @@ use raw_schema::RawSchema;
 use schema_check::{SchemaFault, SchemaRule, check_schema};
 use std::alloc::{AllocError, Global};
 use std::io;
-use tree_check::check_tree;
-use tree_import::{ImportFault, import};
+use tree_check::{ImportFault, check_tree, import};
 use tree_text::{TextFault, read_tree, report};
 use unit_pass::{Pass, open_desk};
 

@@ -1,3 +1,5 @@
 pub mod promise
 pub mod Checks
 pub mod FaultTexts
+pub mod Imports
+pub mod ImportFaults

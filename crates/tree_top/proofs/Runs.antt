@@ -1,12 +1,12 @@
 -- What a run comes to, from what is carried out.
 use Rattle.std.proofs.Common.{ℕ, ◌≡◌, ◌∙◌, true, false, List, Option, None, Some, IfSome, Result, Ok, Err, IfErr, OnOk, ap, sym, subst}
-use Rattle.tree_task.specs.promise.TextOrFault.{Fault}
-use Rattle.tree_task.specs.promise.Answer.{IsAnswerTo}
-use Rattle.tree_task.specs.promise.Faults.{has_memory_inside, is_decided}
-use Rattle.tree_task.specs.Faults.{fault_in}
-use Rattle.tree_task.specs.promise.Over.{RanOver}
-use Rattle.tree_task.specs.declared.command.Command.{Command}
-use Rattle.tree_task.specs.declared.fault.TreeRunFault.{TreeRunFault}
+use Rattle.tree_top.specs.promise.TextOrFault.{Fault}
+use Rattle.tree_top.specs.promise.Answer.{IsAnswerTo}
+use Rattle.tree_top.specs.promise.Faults.{has_memory_inside, is_decided}
+use Rattle.tree_top.specs.Faults.{fault_in}
+use Rattle.tree_top.specs.promise.Over.{RanOver}
+use Rattle.tree_top.specs.declared.command.Command.{Command}
+use Rattle.tree_top.specs.declared.fault.TreeRunFault.{TreeRunFault}
 
 -- over the command of the words, with the counts of a pass that began at none
 pub ran-over : (command asked : Option Command) (bytes : List ℕ) (carried : Result (Unit {0}) TreeRunFault) (fault : Option TreeRunFault)

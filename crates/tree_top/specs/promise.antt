@@ -1,1 +1,17 @@
+pub mod Answer
+pub mod ChunkAnswer
+pub mod Columns
+pub mod Diagnostics
+pub mod Faults
+pub mod FlatAnswer
+pub mod ForeignAnswer
+pub mod ListsAnswer
+pub mod Over
+pub mod Refusals
+pub mod RowsAnswer
+pub mod RunRefusals
+pub mod RunsAnswer
+pub mod TagAnswer
+pub mod TextOrFault
+pub mod UnionAnswer
 pub mod Ran

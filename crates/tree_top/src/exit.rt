@@ -1,8 +1,8 @@
 //! A run as the end of a process.
 ghost use Rattle.std.specs.Prelude.{◌≡◌};
 ghost use Rattle.std.specs.Process.{exit_status};
-ghost use Rattle.tree_task.specs.promise.Answer.{texts_of};
-ghost use Rattle.tree_task.specs.declared.outcome.TreeOutcome.{TreeOutcome as AnOutcome};
+ghost use Rattle.tree_top.specs.promise.Answer.{texts_of};
+ghost use Rattle.tree_top.specs.declared.outcome.TreeOutcome.{TreeOutcome as AnOutcome};
 ghost use Rattle.tree_top.specs.promise.Ran.{Ran};
 
 use crate::top::run_tree;

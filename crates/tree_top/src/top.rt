@@ -1,13 +1,14 @@
 //! The top call.
-ghost use Rattle.tree_task.specs.promise.Answer.{texts_of};
+ghost use Rattle.tree_top.specs.promise.Answer.{texts_of};
 ghost use Rattle.tree_top.specs.promise.Ran.{Ran};
 
+use crate::carry::run_over_source;
+use crate::command::read_command;
+use crate::diagnostics::write_diagnostics;
+use crate::laws::memory_stands_alone;
+use crate::outcome::{TreeOutcome, outcome_of};
 use edge_io::{Sink, Source};
 use std::alloc::Global;
-use tree_task::{
-    TreeOutcome, TreeRunFault, memory_stands_alone, outcome_of, read_command, run_over_source,
-    write_diagnostics,
-};
 use unit_pass::open_desk;
 
 /// Reads the source to its end and writes the text that a command makes of the schema tree and the array tree of that text.

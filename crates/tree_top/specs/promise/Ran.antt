@@ -2,12 +2,12 @@
 use Rattle.std.specs.Prelude.{◌≡◌, ◌↔◌, ◌+◌, ℕ, List, false, Option, None, Some, IfSome}
 use Rattle.std.specs.Io.KnownBytes.{IsAtEnd, Keeps}
 use Rattle.edge_io.specs.promise.Edge.{LosesWithin, Rose}
-use Rattle.tree_task.specs.promise.Answer.{AreBytes, command_of, input_limit}
-use Rattle.tree_task.specs.promise.Faults.{AtWriteFault, cause_of, has_memory_inside, is_write_fault, status_of}
-use Rattle.tree_task.specs.promise.Over.{RanOver, ReadFor}
-use Rattle.tree_task.specs.promise.Diagnostics.{Took, status_line}
-use Rattle.tree_task.specs.declared.fault.TreeRunFault.TheVariants as run
-use Rattle.tree_task.specs.declared.outcome.TreeOutcome.{TreeOutcome}
+use Rattle.tree_top.specs.promise.Answer.{AreBytes, command_of, input_limit}
+use Rattle.tree_top.specs.promise.Faults.{AtWriteFault, cause_of, has_memory_inside, is_write_fault, status_of}
+use Rattle.tree_top.specs.promise.Over.{RanOver, ReadFor}
+use Rattle.tree_top.specs.promise.Diagnostics.{Took, status_line}
+use Rattle.tree_top.specs.declared.fault.TreeRunFault.TheVariants as run
+use Rattle.tree_top.specs.declared.outcome.TreeOutcome.{TreeOutcome}
 
 -- what contracts see of the source and of both sinks
 pub record Outside : Type 0 where

@@ -1,2 +1,0 @@
-pub mod OwnedValues
-pub mod SeenChunks

@@ -1,0 +1,154 @@
+-- The cause of a fault, and its status.
+use Rattle.std.specs.Prelude.{ℕ, Bool, true, false, Option, None, Some, ⊤}
+use Rattle.fmt_string.specs.declared.fault.FormatFault.{FormatFault}
+use Rattle.fmt_string.specs.declared.fault.FormatFault.TheVariants as format
+use Rattle.schema_check.specs.declared.schema.SchemaFault.{SchemaFault}
+use Rattle.schema_check.specs.declared.schema.SchemaFault.TheVariants as schemas
+use Rattle.schema_check.specs.declared.rule.SchemaRule.{SchemaRule}
+use Rattle.schema_check.specs.declared.rule.SchemaRule.TheVariants as rules
+use Rattle.schema_meta.specs.declared.fault.MetaFault.{MetaFault}
+use Rattle.schema_meta.specs.declared.fault.MetaFault.TheVariants as meta
+use Rattle.tree_text.specs.declared.fault.TextFault.{TextFault}
+use Rattle.tree_text.specs.declared.fault.TextFault.TheVariants as texts
+use Rattle.list_cols.specs.declared.fault.ListFault.{ListFault}
+use Rattle.list_cols.specs.declared.fault.ListFault.TheVariants as lists
+use Rattle.run_ends.specs.declared.code_fault.CodeFault.{CodeFault}
+use Rattle.run_ends.specs.declared.code_fault.CodeFault.TheVariants as codings
+use Rattle.run_ends.specs.declared.schema_fault.RunsSchemaFault.{RunsSchemaFault}
+use Rattle.run_ends.specs.declared.schema_fault.RunsSchemaFault.TheVariants as runs
+use Rattle.union_cols.specs.declared.tag_fault.TagFault.{TagFault}
+use Rattle.union_cols.specs.declared.tag_fault.TagFault.TheVariants as tags
+use Rattle.union_cols.specs.declared.schema_fault.UnionSchemaFault.{UnionSchemaFault}
+use Rattle.union_cols.specs.declared.schema_fault.UnionSchemaFault.TheVariants as unions
+use Rattle.tree_top.specs.declared.fault.TreeRunFault.{TreeRunFault}
+use Rattle.tree_top.specs.declared.fault.TreeRunFault.TheVariants as run
+
+-- ---- causes
+
+pub data Cause : Type 0 where
+  OfWords : Cause
+  -- the length of the input
+  OfLength : Cause
+  -- the text, the schema, the array, or columns that a command can't take
+  OfTrees : Cause
+  Reading : Cause
+  -- a write, when this many bytes of the text were taken
+  Writing : ℕ → Cause
+  Memory : Cause
+
+abbrev pub cause_of : TreeRunFault → Cause
+cause_of run.Words = OfWords
+cause_of run.InputTooLong = OfLength
+cause_of run.ReadFault = Reading
+cause_of (run.WriteFault taken) = Writing taken
+cause_of (run.Text fault) = OfTrees
+cause_of (run.Schema path rule) = OfTrees
+cause_of (run.Layout fault) = OfTrees
+cause_of (run.UnionSchema fault) = OfTrees
+cause_of (run.Union fault) = OfTrees
+cause_of (run.Tag fault) = OfTrees
+cause_of (run.RunsSchema fault) = OfTrees
+cause_of (run.Runs fault) = OfTrees
+cause_of (run.Code fault) = OfTrees
+cause_of (run.TooManyColumns count) = OfTrees
+cause_of (run.Column column) = OfTrees
+cause_of (run.Lists fault) = OfTrees
+cause_of run.NoMemory = Memory
+
+abbrev pub status_by : Cause → ℕ
+status_by OfWords = 2
+status_by OfLength = 5
+status_by Reading = 6
+status_by (Writing taken) = 7
+status_by OfTrees = 8
+status_by Memory = 9
+
+-- the status of a run, which is a function of its fault
+abbrev pub status_of : Option TreeRunFault → ℕ
+status_of None = 0
+status_of (Some fault) = status_by (cause_of fault)
+
+-- the words and the bytes of the input decide a fault of this cause
+abbrev pub decides : Cause → Bool
+decides OfWords = true
+decides OfLength = true
+decides OfTrees = true
+decides Reading = false
+decides (Writing taken) = false
+decides Memory = false
+
+abbrev pub is_decided : TreeRunFault → Bool
+is_decided fault = decides (cause_of fault)
+
+abbrev pub is_writing : Cause → Bool
+is_writing (Writing taken) = true
+is_writing _ = false
+
+abbrev pub is_write_fault : TreeRunFault → Bool
+is_write_fault fault = is_writing (cause_of fault)
+
+-- this many bytes were taken before a write failed
+abbrev pub AtWriting : Cause → (ℕ → Type 0) → Type 0
+AtWriting (Writing taken) P = P taken
+AtWriting _ P = ⊤
+
+abbrev pub AtWriteFault : TreeRunFault → (ℕ → Type 0) → Type 0
+AtWriteFault fault P = AtWriting (cause_of fault) P
+
+-- ---- out of memory inside another fault
+
+abbrev pub is_text_memory : TextFault → Bool
+is_text_memory texts.NoMemory = true
+is_text_memory _ = false
+
+abbrev pub is_format_memory : FormatFault → Bool
+is_format_memory format.NoMemory = true
+is_format_memory _ = false
+
+abbrev pub is_meta_memory : MetaFault → Bool
+is_meta_memory meta.NoMemory = true
+is_meta_memory _ = false
+
+abbrev pub rule_has_memory : SchemaRule → Bool
+rule_has_memory (rules.Format fault) = is_format_memory fault
+rule_has_memory (rules.Meta fault) = is_meta_memory fault
+rule_has_memory _ = false
+
+abbrev pub schema_has_memory : SchemaFault → Bool
+schema_has_memory (schemas.At path rule) = rule_has_memory rule
+schema_has_memory schemas.NoMemory = true
+
+abbrev pub union_has_memory : UnionSchemaFault → Bool
+union_has_memory (unions.Meta fault) = is_meta_memory fault
+union_has_memory (unions.Child child fault) = schema_has_memory fault
+union_has_memory unions.NoMemory = true
+union_has_memory _ = false
+
+abbrev pub is_tag_memory : TagFault → Bool
+is_tag_memory tags.NoMemory = true
+is_tag_memory _ = false
+
+abbrev pub runs_has_memory : RunsSchemaFault → Bool
+runs_has_memory (runs.Meta fault) = is_meta_memory fault
+runs_has_memory (runs.Child child fault) = schema_has_memory fault
+runs_has_memory runs.NoMemory = true
+runs_has_memory _ = false
+
+abbrev pub is_code_memory : CodeFault → Bool
+is_code_memory codings.NoMemory = true
+is_code_memory _ = false
+
+abbrev pub is_list_memory : ListFault → Bool
+is_list_memory lists.NoMemory = true
+is_list_memory _ = false
+
+-- the types of all other faults have no such value
+abbrev pub has_memory_inside : TreeRunFault → Bool
+has_memory_inside (run.Text fault) = is_text_memory fault
+has_memory_inside (run.Schema path rule) = rule_has_memory rule
+has_memory_inside (run.UnionSchema fault) = union_has_memory fault
+has_memory_inside (run.Tag fault) = is_tag_memory fault
+has_memory_inside (run.RunsSchema fault) = runs_has_memory fault
+has_memory_inside (run.Code fault) = is_code_memory fault
+has_memory_inside (run.Lists fault) = is_list_memory fault
+has_memory_inside _ = false
