@@ -25,7 +25,6 @@ mod schema;
 mod size;
 mod table_array;
 mod types;
-mod worked;
 
 pub use column_array::{export_column, let_go_column};
 pub use laws::{
@@ -36,4 +35,3 @@ pub use schema::export_schema;
 pub use size::schema_size;
 pub use table_array::export_table;
 pub use types::column_schemas_are_lawful;
-pub use worked::worked_arrays;

@@ -12,15 +12,12 @@
 //! `Items`.
 #![tactic(auto)]
 
-mod column_examples;
 mod column_laws;
 mod laws;
 mod stored;
 mod types;
 mod values;
-mod worked;
 
-pub use column_examples::worked_columns;
 pub use column_laws::{
     column_types_follow_picks, columns_can_be_taken, columns_of_a_table,
     packed_columns_make_a_chunk, picked_columns_make_a_chunk, replaced_columns_make_a_chunk,
@@ -33,4 +30,3 @@ pub use laws::{
 };
 pub use types::flat_types_have_no_children;
 pub use values::lawful_values_fit;
-pub use worked::worked_windows;

@@ -29,7 +29,6 @@ mod builder;
 mod column;
 mod finish;
 mod item;
-mod laws;
 mod numbers;
 mod shape;
 mod store;
@@ -41,7 +40,6 @@ pub use builder::Builder;
 pub use column::FinishedColumn;
 pub use finish::SpareBuffers;
 pub use item::{Item, PushFault};
-pub use laws::worked_encodings;
 pub use text::{is_text, is_text_beyond};
 
 #[cfg(test)]

@@ -1,4 +1,3 @@
 pub mod promise
 pub mod Batches
-pub mod Examples
 pub mod FaultTexts

@@ -63,11 +63,3 @@ fn paid(i: u32) -> &'static [u8]
 pub fn made_is_short()
     ensures { (n : ℕ) → n ≤ 1_000_000 → length (made n) ≤ 1_073_741_824 }
 {}
-
-/// A law: what the definitions say of small numbers.
-pub fn worked_rows()
-    ensures none { made 0 ≡ codes "id,name,amount,paid\n" }
-    ensures one { made 1 ≡ codes "id,name,amount,paid\n1,item1,1.25,true\n" }
-    ensures two { made 2 ≡ codes "id,name,amount,paid\n1,item1,1.25,true\n2,item2,2.25,false\n" }
-    ensures tenth { made_row 10 ≡ codes "10,item0,10.25,false\n" }
-{}

@@ -40,7 +40,7 @@ mod typed;
 pub use column_view::struct_of;
 pub use columns::{clone_kind, is_column_type, is_flat};
 pub use copied::{clone_column, clone_columns};
-pub use field_text::{fields_are_values, worked_field_texts, written_texts_read_back};
+pub use field_text::{fields_are_values, written_texts_read_back};
 pub use hexadecimal::decode_hex;
 pub use kind::{ColKind, ColumnType, DataType, Tick};
 pub use laws::kinds_of_typed;

@@ -2,6 +2,5 @@ pub mod promise
 pub mod Layout
 pub mod Walk
 pub mod Found
-pub mod WorkedArrays
 pub mod Within
 pub mod Lawful

@@ -9,15 +9,14 @@
 //!   ([`lawful_items_lie_within`], `specs/Within.antt`). [`lawful_trees`] and [`chunks_are_tables`] say it over all trees.
 //!
 //! The definitions are in `specs`: `Rules`, `Walk` (the first fault over the nodes of an array), `Layout`, `Values` (the
-//! values of a lawful array). [`small_arrays`] computes them on examples. Left to others: the check itself
-//! (`layout_check`), the kinds of a schema (`schema_check`), and reading the values (`arr_import`).
+//! values of a lawful array). Left to others: the check itself (`layout_check`), the kinds of a schema (`schema_check`), and
+//! reading the values (`arr_import`).
 #![tactic(auto)]
 
 mod fault_text;
 mod laws;
 mod layout;
 mod rule;
-mod worked_arrays;
 
 pub use laws::{
     chunks_are_tables, lawful_has_no_fault, lawful_items_lie_within, lawful_parts, lawful_root,
@@ -25,4 +24,3 @@ pub use laws::{
 };
 pub use layout::{Layout, buffer_count, layout_of};
 pub use rule::{LayoutFault, LayoutRule, Numbers};
-pub use worked_arrays::small_arrays;

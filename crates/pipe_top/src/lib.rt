@@ -40,7 +40,6 @@ mod laws;
 mod owned_value;
 mod record_tap;
 mod top;
-mod worked;
 
 pub use any_step::AnyStep;
 pub use carry::run_task;
@@ -53,4 +52,3 @@ pub use record_tap::{RecordTap, SeenChunk};
 pub use run_model::{Outcome, PlanRule, RunFault, StageFault, TreeFault, TypesRule, WordsFault};
 pub use stage_chain::DriveFault;
 pub use top::run;
-pub use worked::worked_answers;

@@ -1,9 +1,9 @@
 //! Items of a column, grouped by value.
 //!
 //! [`grouped`] finds the groups of a column of a flat type: its distinct values in order of first appearance, and the
-//! numbers of the items of each ([`Groups`]). [`first_items`] finds only the first item of each. [`small_groups`] computes
-//! the definitions on examples. These are in `specs/promise/Groups.antt` of `data_types`: which values of a flat type are the same,
-//! which are the distinct ones of a column, and which items have each.
+//! numbers of the items of each ([`Groups`]). [`first_items`] finds only the first item of each. The
+//! definitions are in `specs/promise/Groups.antt` of `data_types`: which values of a flat type are the same, which are the distinct ones
+//! of a column, and which items have each.
 //!
 //! A null is a value of its own, and floats are compared by their bits. An item costs a constant number of steps, whatever
 //! the values are, but for the logarithm of their number where they were chosen to have one hash (`item_keys`); and at most
@@ -20,9 +20,7 @@ mod groups;
 mod numbering;
 mod numbers;
 mod order;
-mod worked_groups;
 
 pub use fault::GroupFault;
 pub use firsts::first_items;
 pub use groups::{Groups, grouped};
-pub use worked_groups::small_groups;

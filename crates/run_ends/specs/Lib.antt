@@ -12,4 +12,3 @@ pub mod CodeFaults
 pub mod RunMaking
 pub mod RunWalks
 pub mod ColumnRuns
-pub mod WorkedRuns

@@ -39,7 +39,6 @@ mod rule;
 mod run_tops;
 mod same;
 mod schema_fault;
-mod worked_runs;
 
 pub use check::check_runs;
 pub use code_fault::{CodeFault, encode_fault};
@@ -53,4 +52,3 @@ pub use laws::one_runs_answer;
 pub use read::read_runs;
 pub use rule::{RunsFault, RunsRule};
 pub use schema_fault::RunsSchemaFault;
-pub use worked_runs::small_runs;

@@ -6,5 +6,4 @@ mod TreeLines
 pub mod Rows
 pub mod Numbers
 pub mod Taken
-pub mod Worked
 pub mod Taking

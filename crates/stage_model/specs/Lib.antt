@@ -3,5 +3,4 @@ pub mod StageGrammar
 pub mod Typing
 pub mod Stages
 pub mod Links
-pub mod Examples
 pub mod FaultTexts

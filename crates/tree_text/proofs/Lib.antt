@@ -12,7 +12,6 @@ pub mod SchemaSteps
 pub mod ArraySteps
 pub mod ArrayNodes
 pub mod WholeText
-pub mod SmallBytes
 pub mod OneTree
 pub mod SomeReading
 pub mod ReportLines

@@ -1,7 +1,6 @@
 pub mod promise
 pub mod Standing
 pub mod Answers
-pub mod Worked
 pub mod LineView
 pub mod Below
 pub mod Cursors

@@ -30,10 +30,8 @@ mod report_text;
 mod report_tree;
 mod schema_tree;
 mod tokens;
-mod worked;
 
 pub use fault::TextFault;
 pub use laws::one_reading;
 pub use reading::read_tree;
 pub use report_tree::report;
-pub use worked::small_texts;

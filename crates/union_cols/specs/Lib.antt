@@ -13,5 +13,4 @@ pub mod Tags
 pub mod TagAnswers
 pub mod TagViews
 pub mod FaultTexts
-pub mod WorkedUnions
 pub mod NullColumns

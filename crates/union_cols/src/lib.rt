@@ -34,7 +34,6 @@ mod tag_ids;
 mod tag_moves;
 mod tag_tops;
 mod tagged;
-mod worked_unions;
 
 pub use check::check_union;
 pub use column::UnionCol;
@@ -46,4 +45,3 @@ pub use schema_fault::UnionSchemaFault;
 pub use some_format::some_union_format;
 pub use tag_fault::TagFault;
 pub use tagged::tag;
-pub use worked_unions::{small_tags, small_unions};

@@ -1,0 +1,17 @@
+use Rattle.std.proofs.Common.{refl}
+use Rattle.std.specs.Str.{chars, is_utf8}
+use Rattle.std.specs.Fmt.{digits}
+use lib.Utf8.{encode}
+use Rattle.csv.specs.Writing.{escaped, fields_text, is_blank}
+use Rattle.csv.proofs.OnLiterals.{csv_on_literals}
+use Rattle.facts.proofs.links.batches.Goals as goal
+
+pub returns : goal.returns
+unfolding csv_on_literals is_utf8 chars encode escaped fields_text is_blank digits
+returns c = record {
+  good = refl;
+  none = refl;
+  late = refl;
+  ragged = refl;
+  end = refl;
+}

@@ -1,0 +1,14 @@
+pub mod Answers
+pub mod Words
+pub mod Csv
+pub mod Stages
+pub mod Arrays
+pub mod Standard
+pub mod Formats
+pub mod Chunks
+pub mod Columns
+pub mod Trees
+pub mod Unions
+pub mod Runs
+pub mod Streams
+pub mod Lists
