@@ -12,7 +12,8 @@ use Rattle.col_build.specs.promise.Encoding.{null_total}
 use Rattle.col_build.specs.Encoding.{Fits}
 use Rattle.data_types.specs.promise.KindTrees.{KindTree}
 use Rattle.layout_rules.specs.promise.Rules.{count_wrong, indices_wrong, length_if, one_if}
-use Rattle.layout_rules.specs.promise.Values.{item, value_at, values_of}
+use Rattle.layout_rules.specs.promise.Values.{value_at, values_of}
+use Rattle.layout_rules.specs.Values.{item}
 use Rattle.data_types.specs.promise.Ways.{Steps}
 use Rattle.layout_rules.specs.promise.Walk.{LayoutOk, node_fault, visit_fault}
 use Rattle.arr_export.specs.promise.ArrayTrees.{column_members, column_tree}

@@ -21,8 +21,10 @@ use Rattle.data_types.specs.promise.Value.{bytes_of, is_null}
 use Rattle.col_build.specs.Encoding.{Fits, HasForm, fault_if}
 use Rattle.col_build.specs.promise.Encoding.{stored_item}
 use Rattle.layout_rules.specs.promise.Layout.{bytes, data_of, is_valid, laid_out, layout_of, stored_number}
-use Rattle.layout_rules.specs.promise.Rules.{not_text, texts_wrong}
-use Rattle.layout_rules.specs.promise.Values.{item, stored_item as stored_value}
+use Rattle.layout_rules.specs.promise.Rules.{texts_wrong}
+use Rattle.layout_rules.specs.Rules.{not_text}
+use Rattle.layout_rules.specs.promise.Values.{stored_item as stored_value}
+use Rattle.layout_rules.specs.Values.{item}
 use Rattle.layout_rules.specs.declared.layout.Layout.{Layout}
 use Rattle.layout_rules.specs.declared.layout.Layout.TheVariants.{FixedWidth}
 use Rattle.arr_export.specs.promise.ArrayTrees.{made_buffers, made_if}

@@ -9,7 +9,8 @@ use Rattle.tree_model.specs.Tree.{Depth, depth_of_all}
 use Rattle.tree_model.specs.promise.TreeCost.{Nodes}
 use Rattle.raw_schema.specs.promise.Members.{SchemaTree}
 use Rattle.raw_schema.specs.Members.{nodes_of_all}
-use Rattle.schema_check.specs.promise.ColumnSchema.{column_schema, schema_of_column}
+use Rattle.schema_check.specs.promise.ColumnSchema.{column_schema}
+use Rattle.schema_check.specs.ColumnSchema.{schema_of_column}
 use Rattle.arr_export.specs.CodeSchema.{code_schema}
 
 -- the schemas of the columns that the code keeps

@@ -7,10 +7,13 @@ use Rattle.std.specs.List.{All, concat, flat_map}
 use Rattle.raw_array.specs.promise.Members.{Buffer}
 use Rattle.data_types.specs.promise.Value.{Value, Null}
 use Rattle.data_types.specs.promise.Packed.{bit, le_bytes, le_number, number_at, offset_width}
-use Rattle.col_build.specs.promise.Encoding.{bit_bytes, bit_value, if_some, is_set, offset_bytes, stored_item}
+use Rattle.col_build.specs.promise.Encoding.{bit_bytes, bit_value, if_some, is_set, stored_item}
+use Rattle.col_build.specs.Encoding.{offset_bytes}
 use Rattle.data_types.specs.promise.Value.{bytes_of}
-use Rattle.layout_rules.specs.promise.Layout.{bytes, data_of, end, natural, offset_in, offsets_need, stored_bytes}
-use Rattle.layout_rules.specs.promise.Rules.{buffer_short, fault, first_below, is_negative, offset_falls, offsets_fall}
+use Rattle.layout_rules.specs.promise.Layout.{bytes, data_of, end, natural, offset_in, offsets_need}
+use Rattle.layout_rules.specs.Layout.{stored_bytes}
+use Rattle.layout_rules.specs.promise.Rules.{fault, first_below, is_negative, offsets_fall}
+use Rattle.layout_rules.specs.Rules.{buffer_short, offset_falls}
 use Rattle.layout_rules.specs.declared.layout.Layout.TheVariants.{ByOffsets, FixedWidth, TruthBits}
 use Rattle.layout_rules.specs.declared.rule.Numbers.{Numbers}
 use Rattle.arr_export.specs.promise.ArrayTrees.{made_if}

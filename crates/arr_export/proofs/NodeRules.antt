@@ -11,8 +11,10 @@ use Rattle.data_types.specs.promise.Value.{Value}
 use Rattle.data_types.specs.declared.kind.DataType.{DataType}
 use Rattle.col_build.specs.promise.Encoding.{if_some, null_total, validity_of}
 use Rattle.data_types.specs.promise.KindTrees.{KindTree}
-use Rattle.layout_rules.specs.promise.Layout.{bits_need, buffer, buffer_count, bytes, bytes_or_none, end, layout_of, need}
-use Rattle.layout_rules.specs.promise.Rules.{Node, buffer_absent, buffer_short, count_wrong, fault_if, first_below, in_order, indices_wrong, is_behind_offsets}
+use Rattle.layout_rules.specs.promise.Layout.{buffer, buffer_count, bytes, bytes_or_none, end, layout_of, need}
+use Rattle.layout_rules.specs.Layout.{bits_need}
+use Rattle.layout_rules.specs.promise.Rules.{Node, buffer_absent, count_wrong, fault_if, first_below, in_order, indices_wrong, is_behind_offsets}
+use Rattle.layout_rules.specs.Rules.{buffer_short}
 use Rattle.layout_rules.specs.promise.Rules.{length_if, null_count_wrong, null_count_wrong_in, offsets_fall_if, one_if, prefixes_wrong, texts_wrong, views_misplaced}
 use Rattle.layout_rules.specs.promise.Rules.{null_total as null_items}
 use Rattle.data_types.specs.promise.Ways.{Steps}

@@ -5,7 +5,8 @@ use Rattle.std.proofs.lemmas.Bool.{le-ltb, lt-ltb}
 use Rattle.std.proofs.Math.Seq.{drop-append_seam, take-append_seam}
 use Rattle.std.specs.List.{All, concat}
 use Rattle.data_types.specs.promise.Packed.{le_bytes, meant, number_at, offset_width}
-use Rattle.col_build.specs.promise.Encoding.{ends, offset_bytes}
+use Rattle.col_build.specs.promise.Encoding.{ends}
+use Rattle.col_build.specs.Encoding.{offset_bytes}
 use Rattle.layout_rules.specs.promise.Layout.{natural, offset_in}
 use Rattle.std.specs.Prelude.{int_lt}
 use Rattle.arr_export.proofs.Pieces.{length-le_bytes, length-pieces, number-there}

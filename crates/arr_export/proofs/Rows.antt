@@ -11,8 +11,8 @@ use Rattle.data_types.specs.declared.kind.ColumnType.{ColumnType}
 use Rattle.data_types.proofs.StructColumns.{row_is}
 use Rattle.tree_model.specs.promise.TreeData.{Trees, absent, more_trees, trees}
 use Rattle.raw_schema.specs.promise.Members.{SchemaMembers}
-use Rattle.schema_check.specs.promise.ColumnSchema.{column_schema, member_schemas, node, nullable, schema_of_column, struct_format}
-use Rattle.schema_check.specs.ColumnSchema.{KindsOk, MembersOk}
+use Rattle.schema_check.specs.promise.ColumnSchema.{column_schema, member_schemas, node, nullable, struct_format}
+use Rattle.schema_check.specs.ColumnSchema.{schema_of_column, KindsOk, MembersOk}
 use Rattle.arr_export.specs.CodeSchema.{ColumnsOk, code_schemas}
 use Rattle.arr_export.proofs.Costs.{schemas-mapped}
 

@@ -11,8 +11,10 @@ use Rattle.tree_model.specs.promise.TreeData.{Live, no_trees, absent, trees}
 use Rattle.tree_model.specs.Tree.{Depth, depth_of_all}
 use Rattle.col_build.specs.Encoding.{HasForm}
 use Rattle.schema_check.specs.promise.Schemas.{ChildrenFit, MapFits, TypedFrom, KidsTyped, TypedOf}
-use Rattle.schema_check.specs.promise.ColumnSchema.{SchemaOf, column_schema, member_schemas, schema_of_column, values_schema}
-use Rattle.data_types.specs.promise.ColumnKinds.{type_of_columns, type_of_kind, types_of_columns, types_of_members}
+use Rattle.schema_check.specs.promise.ColumnSchema.{SchemaOf, column_schema, member_schemas, values_schema}
+use Rattle.schema_check.specs.ColumnSchema.{schema_of_column}
+use Rattle.data_types.specs.promise.ColumnKinds.{type_of_columns, type_of_kind, types_of_members}
+use Rattle.data_types.specs.ColumnKinds.{types_of_columns}
 use Rattle.data_types.specs.ColumnForms.{AreColumnKinds, IsColumnKind, MembersAreColumns}
 
 -- ---- the schema of a column

@@ -5,7 +5,8 @@ use Rattle.tree_model.specs.promise.TreeData.{trees}
 use Rattle.tree_model.specs.Tree.{Depth, depth_of_all}
 use Rattle.tree_model.specs.promise.TreeCost.{Nodes}
 use Rattle.raw_schema.specs.Members.{nodes_of_all}
-use Rattle.schema_check.specs.promise.ColumnSchema.{SchemaOf, column_schema, member_schemas, schema_of_column}
+use Rattle.schema_check.specs.promise.ColumnSchema.{SchemaOf, column_schema, member_schemas}
+use Rattle.schema_check.specs.ColumnSchema.{schema_of_column}
 use Rattle.arr_export.specs.SchemaSize.{AreFlat, nodes_of_columns, nodes_of_kind, nodes_of_members}
 
 mutual

@@ -6,7 +6,8 @@ use Rattle.data_types.specs.declared.kind.DataType.{DataType}
 use Rattle.data_types.specs.promise.KindTrees.{KindTree}
 use Rattle.layout_rules.specs.promise.Rules.{Node, fails, in_order}
 use Rattle.data_types.specs.promise.Ways.{Steps, dictionary_step}
-use Rattle.layout_rules.specs.promise.Walk.{Walk, fault_at, fault_by, first_some, node_fault, node_of, visit_fault, visits, walk_below}
+use Rattle.layout_rules.specs.promise.Walk.{Walk, fault_at, first_some, node_fault, node_of, visit_fault, visits, walk_below}
+use Rattle.layout_rules.specs.Walk.{fault_by}
 use Rattle.layout_rules.specs.promise.Walk.{walk_children, walk_dictionary, walk_of, walks_of}
 use Rattle.layout_rules.specs.declared.rule.LayoutRule.{LayoutRule}
 use Rattle.layout_rules.specs.declared.rule.Numbers.{Numbers}

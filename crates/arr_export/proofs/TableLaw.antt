@@ -23,9 +23,9 @@ use Rattle.layout_rules.specs.declared.rule.LayoutRule.TheVariants as rules
 use Rattle.layout_rules.specs.declared.rule.Numbers.{Numbers}
 use Rattle.layout_rules.proofs.Lawful.{first_fault-lawful, lawful-first_fault, left-none}
 use Rattle.layout_rules.proofs.NamedRules.{AreMet, none-fails}
-use Rattle.data_types.specs.promise.ColumnKinds.{table_type}
-use Rattle.arr_export.specs.promise.ArrayTrees.{table_members, table_tree}
-use Rattle.arr_export.specs.ArrayTrees.{AreLawful, HaveValues, rows_of_columns, rows_of_values}
+use Rattle.data_types.specs.ColumnKinds.{table_type}
+use Rattle.arr_export.specs.promise.ArrayTrees.{table_tree}
+use Rattle.arr_export.specs.ArrayTrees.{table_members, AreLawful, HaveValues, rows_of_columns, rows_of_values}
 use Rattle.arr_export.proofs.Each.{each-same, length-each, value-there}
 use Rattle.arr_export.proofs.NodeRules.{both-none, no-fault}
 use Rattle.arr_export.proofs.Steady.{first_some-append, steady}

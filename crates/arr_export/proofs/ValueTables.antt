@@ -7,7 +7,7 @@ use Rattle.data_types.specs.promise.Value.{Value}
 use Rattle.layout_rules.specs.promise.Values.{rows_of, tree_items, values_of}
 use Rattle.layout_rules.specs.promise.Walk.{ChunkOk, LayoutOk}
 use Rattle.col_build.specs.Encoding.{Fits}
-use Rattle.data_types.specs.promise.ColumnKinds.{table_type}
+use Rattle.data_types.specs.ColumnKinds.{table_type}
 use Rattle.arr_export.specs.promise.ArrayTrees.{table_tree}
 use Rattle.arr_export.specs.ArrayTrees.{AreIndices, AreLawful, HaveValues, looked_up, rows_of_values}
 use Rattle.arr_export.specs.promise.ValueColumns.{TypedValues, ValueColumn}

@@ -7,13 +7,14 @@ use Rattle.data_types.specs.promise.Value.{Value, Null, Whole}
 use Rattle.tree_model.specs.promise.TreeData.{Live, no_trees, maybe_tree}
 use Rattle.tree_model.specs.promise.TreeParts.{IsLive}
 use Rattle.tree_model.specs.Tree.{Depth}
-use Rattle.raw_array.specs.promise.Members.{ArrayTree}
+use Rattle.raw_array.specs.promise.Members.{ArrayTree, ArrayMembers}
 use Rattle.col_build.specs.Encoding.{Fits}
 use Rattle.col_build.specs.Finished.{IsEncoded}
 use Rattle.col_build.specs.declared.column.FinishedColumn.{FinishedColumn}
 use Rattle.data_types.specs.promise.KindTrees.{KindTree}
 use Rattle.layout_rules.specs.promise.Values.{each, field_items, tree_items, value_at, values_of}
 use Rattle.layout_rules.specs.promise.Walk.{LayoutOk}
+use Rattle.raw_array.specs.declared.array.ReleaseKind.TheVariants.{Assembled}
 
 -- ---- a column
 
@@ -82,3 +83,7 @@ rows_of_columns types columns rows = each (field_items (map value_at types) colu
 -- the same by the columns' values
 abbrev pub rows_of_values : List (List Value) → ℕ → List Row
 rows_of_values columns rows = each (λ i. map (λ values. get_or values i Null) columns) 0 rows
+
+-- a struct with as many items as there are rows, none of them null
+abbrev pub table_members : ℕ → ArrayMembers
+table_members rows = record { length = pos rows; null_count = pos 0; offset = pos 0; buffers = None ∷ []; kind = Assembled }

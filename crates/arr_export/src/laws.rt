@@ -7,7 +7,7 @@ ghost use Rattle.col_build.specs.Encoding.{Fits};
 ghost use Rattle.data_types.specs.promise.KindTrees.{KindTree};
 ghost use Rattle.layout_rules.specs.promise.Values.{rows_of, tree_items, values_of};
 ghost use Rattle.layout_rules.specs.promise.Walk.{ChunkOk, LayoutOk};
-ghost use Rattle.data_types.specs.promise.ColumnKinds.{table_type};
+ghost use Rattle.data_types.specs.ColumnKinds.{table_type};
 ghost use Rattle.arr_export.specs.promise.ArrayTrees.{column_tree};
 ghost use Rattle.arr_export.specs.ArrayTrees.{AreIndices, AreLawful, HaveValues, flat_type, looked_up, rows_of_columns, rows_of_values};
 ghost use Rattle.arr_export.specs.promise.ArrayTrees.{table_tree};

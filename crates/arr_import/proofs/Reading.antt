@@ -28,7 +28,8 @@ use Rattle.data_types.specs.KindTrees.{NodesOk, AllNodesOk, DictNodesOk, KidsOk,
 use Rattle.data_types.specs.promise.TypedView.{typed_of}
 use Rattle.data_types.specs.TypedView.{kind_of, kids_of, dict_in}
 use Rattle.layout_rules.specs.promise.Layout.{laid_out, layout_of, bytes, first, is_valid}
-use Rattle.layout_rules.specs.promise.Values.{Reader, each, child_item, field_items, row_items, item, item_or_entry, value_at, readers, reader_of, tree_items}
+use Rattle.layout_rules.specs.promise.Values.{Reader, each, child_item, field_items, row_items, item_or_entry, value_at, readers, reader_of, tree_items}
+use Rattle.layout_rules.specs.Values.{item}
 use Rattle.layout_rules.specs.Within.{StoredWithin, ItemsWithin, IndexWithin, ViewWithin, DataWithin}
 use Rattle.data_types.specs.declared.storage.Storage.{Storage}
 use Rattle.data_types.specs.declared.storage.Storage.TheVariants as storages

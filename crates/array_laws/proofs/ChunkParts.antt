@@ -5,7 +5,7 @@ use Rattle.tree_model.specs.promise.TreeParts.{IsLive}
 use Rattle.tree_model.specs.promise.TreeData.{Released, Live, Trees, MaybeTree, absent, trees, tree_list}
 use Rattle.tree_model.proofs.Lists.{tree_list-trees}
 use Rattle.raw_array.specs.promise.Members.{ArrayMembers, ArrayTree}
-use Rattle.data_types.specs.promise.ColumnKinds.{table_type}
+use Rattle.data_types.specs.ColumnKinds.{table_type}
 use Rattle.data_types.specs.promise.KindTrees.{KindTree}
 use Rattle.layout_rules.specs.promise.Layout.{end, first, items}
 use Rattle.layout_rules.specs.promise.Values.{tree_items}

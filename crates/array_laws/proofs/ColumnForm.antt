@@ -6,13 +6,13 @@ use Rattle.raw_array.specs.promise.Members.{ArrayTree}
 use Rattle.data_types.specs.promise.KindTrees.{KindTree}
 use Rattle.layout_rules.specs.promise.Values.{rows_of}
 use Rattle.layout_rules.specs.promise.Walk.{ChunkOk, LayoutOk}
-use Rattle.data_types.specs.promise.ColumnKinds.{table_type}
+use Rattle.data_types.specs.ColumnKinds.{table_type}
 use Rattle.arr_move.specs.TreeActs.{Columns, FitParentWindow, InRange}
 use Rattle.array_laws.proofs.StructParts.{children-are, of-struct}
 use Rattle.array_laws.proofs.PackedColumns.{pack-chunk, pack-rows}
 use Rattle.array_laws.proofs.PickedColumns.{picked-chunk, picked-fit, picked-rows}
-use Rattle.data_types.specs.promise.Parts.{packed, picked}
-use Rattle.data_types.specs.Parts.{AreWithin}
+use Rattle.data_types.specs.promise.Parts.{picked}
+use Rattle.data_types.specs.Parts.{packed, AreWithin}
 use Rattle.array_laws.specs.Picking.{AreLive, Packed, packed_types}
 
 pub range-of : (types : List KindTree) (t : ArrayTree) (picks : List ℕ) → LayoutOk (table_type types) t → AreWithin (length types) picks → InRange t picks

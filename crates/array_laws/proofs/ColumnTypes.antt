@@ -8,7 +8,8 @@ use Rattle.tree_model.specs.promise.TreeParts.{IsLive}
 use Rattle.tree_model.specs.promise.TreeData.{Live, Released, absent, Trees, trees, more_trees}
 use Rattle.data_types.specs.promise.KindTrees.{KindTree}
 use Rattle.data_types.specs.KindTrees.{AllNodesOk, NodesOk}
-use Rattle.data_types.specs.promise.ColumnKinds.{table_type, type_of_column, type_of_kind, types_of_columns, types_of_members}
+use Rattle.data_types.specs.promise.ColumnKinds.{type_of_kind, types_of_members}
+use Rattle.data_types.specs.ColumnKinds.{table_type, type_of_column, types_of_columns}
 use Rattle.array_laws.proofs.PickedColumns.{head-within, tail-within}
 use Rattle.data_types.specs.promise.Parts.{member_columns, picked}
 use Rattle.data_types.specs.Parts.{AreWithin}

@@ -2,14 +2,14 @@
 use Rattle.std.proofs.Common.{◌≡◌, ℕ, suc, ◌≤◌, [], ◌∷◌, ◌++◌, length, None, Some, ◌∙◌, Option, sym, List, arith}
 use Rattle.data_types.specs.declared.kind.DataType.{DataType}
 use Rattle.tree_model.specs.promise.TreeData.{Released, Live, Trees, no_trees, more_trees, MaybeTree, absent, present, tree_list, option_tree}
-use Rattle.tree_model.specs.Tree.{Depth, depth_of_all}
-use Rattle.tree_model.specs.Tree.{depth_of_maybe}
+use Rattle.tree_model.specs.Tree.{Depth, depth_of_all, depth_of_maybe}
 use Rattle.raw_array.specs.promise.Members.{ArrayMembers, ArrayTree}
 use Rattle.data_types.specs.promise.KindTrees.{KindTree}
 use Rattle.data_types.specs.KindTrees.{AllNodesOk, DictNodesOk, NodesOk}
 use Rattle.layout_rules.specs.promise.Rules.{count_wrong, one_if}
 use Rattle.data_types.specs.promise.Ways.{Steps, dictionary_step}
-use Rattle.layout_rules.specs.promise.Walk.{LayoutOk, fault_from, first_some, node_fault, visit_fault, visits, walk_below, walk_children}
+use Rattle.layout_rules.specs.promise.Walk.{LayoutOk, first_some, node_fault, visit_fault, visits, walk_below, walk_children}
+use Rattle.layout_rules.specs.Walk.{fault_from}
 use Rattle.layout_rules.specs.promise.Walk.{walk_dictionary, walk_of, walks_of}
 use Rattle.layout_rules.proofs.Lawful.{lawful-first_fault, left-none, right-none}
 use Rattle.layout_rules.proofs.Walks.{first_some-append}

@@ -22,11 +22,14 @@ use Rattle.col_build.proofs.ShapeFacts.{FormOk, form-ok}
 use Rattle.tree_model.specs.promise.TreeData.{Released, Live, no_trees, absent, tree_list}
 use Rattle.raw_array.specs.promise.Members.{ArrayMembers, ArrayTree, members_of}
 use Rattle.layout_rules.specs.declared.rule.LayoutRule.TheVariants as rules
-use Rattle.layout_rules.specs.promise.Layout.{bytes, data_of, first, is_valid, items, laid_out, layout_of, natural, offset, stored_bytes, stored_number}
+use Rattle.layout_rules.specs.promise.Layout.{bytes, data_of, first, is_valid, items, laid_out, layout_of, natural, offset, stored_number}
+use Rattle.layout_rules.specs.Layout.{stored_bytes}
 use Rattle.layout_rules.specs.Lawful.{ItemsHold}
-use Rattle.layout_rules.specs.promise.Rules.{not_text, texts_wrong}
+use Rattle.layout_rules.specs.promise.Rules.{texts_wrong}
+use Rattle.layout_rules.specs.Rules.{not_text}
 use Rattle.layout_rules.specs.promise.Rules.{fault_if as rule_fault}
-use Rattle.layout_rules.specs.promise.Values.{item, stored_item, tree_items, value_at}
+use Rattle.layout_rules.specs.promise.Values.{stored_item, tree_items, value_at}
+use Rattle.layout_rules.specs.Values.{item}
 use Rattle.layout_rules.specs.promise.Walk.{LayoutOk}
 use Rattle.layout_rules.specs.Within.{StoredWithin}
 use Rattle.layout_rules.proofs.Firsts.{first_below-none_at}

@@ -11,7 +11,7 @@ use Rattle.data_types.specs.promise.KindTrees.{KindTree}
 use Rattle.layout_rules.specs.promise.Layout.{first, items}
 use Rattle.layout_rules.specs.promise.Values.{each, field_items, readers, row_items, rows_of, tree_items, value_at}
 use Rattle.layout_rules.specs.promise.Walk.{ChunkOk, LayoutOk}
-use Rattle.data_types.specs.promise.ColumnKinds.{table_type}
+use Rattle.data_types.specs.ColumnKinds.{table_type}
 use Rattle.raw_array.specs.Windows.{Window}
 use Rattle.arr_move.specs.TreeActs.{struct_members}
 use Rattle.array_laws.proofs.ChunkParts.{StructFacts, struct-facts}
@@ -19,8 +19,8 @@ use Rattle.array_laws.proofs.PickedColumns.{cut-lawful, cut-long, cut-row, cut_a
 use Rattle.array_laws.proofs.StructRows.{CutFacts, all-append, all-drop, all-take, cut-facts, lawful-append, lawful-drop, lawful-take, row-append, row-drop}
 use Rattle.array_laws.proofs.StructRows.{row-take, struct-item}
 use Rattle.array_laws.proofs.WindowItems.{each-same}
-use Rattle.data_types.specs.promise.Parts.{fields_of, packed, picked, unpacked}
-use Rattle.data_types.specs.Parts.{AreWithin, IsFields}
+use Rattle.data_types.specs.promise.Parts.{fields_of, picked}
+use Rattle.data_types.specs.Parts.{packed, unpacked, AreWithin, IsFields}
 use Rattle.array_laws.specs.Picking.{AreLive, Packed, Unpacked, cut_children, packed_types, struct_like, unpacked_types}
 use Rattle.array_laws.proofs.StructLaw.{AreLawful, column_rows, readers-are, struct-chunk, struct-rows, struct_tree}
 

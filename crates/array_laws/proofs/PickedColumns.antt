@@ -10,7 +10,7 @@ use Rattle.data_types.specs.promise.KindTrees.{KindTree}
 use Rattle.layout_rules.specs.promise.Layout.{first, items}
 use Rattle.layout_rules.specs.promise.Values.{each, field_items, readers, row_items, rows_of, tree_items, value_at}
 use Rattle.layout_rules.specs.promise.Walk.{ChunkOk, LayoutOk}
-use Rattle.data_types.specs.promise.ColumnKinds.{table_type}
+use Rattle.data_types.specs.ColumnKinds.{table_type}
 use Rattle.raw_array.specs.Windows.{FitsWindow, Window}
 use Rattle.arr_move.specs.TreeActs.{Columns, FitParentWindow, cut, struct_members}
 use Rattle.array_laws.proofs.ChunkParts.{StructFacts, struct-facts}

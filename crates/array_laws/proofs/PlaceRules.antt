@@ -13,8 +13,9 @@ use Rattle.layout_rules.specs.declared.layout.Layout.TheVariants.{NoBuffers, Fix
 use Rattle.layout_rules.specs.declared.rule.Numbers.{Numbers}
 use Rattle.layout_rules.specs.promise.Layout.{buffer, bytes_or_none, data_place, first, is_valid_by, items, natural, offset_in, view_width}
 use Rattle.layout_rules.specs.promise.Views.{is_long}
-use Rattle.layout_rules.specs.promise.Rules.{fault, fault_if, first_below, index_wrong, indices_wrong, is_negative, is_outside, misplaced, not_text, offset_falls}
-use Rattle.layout_rules.specs.promise.Rules.{prefix_wrong, prefixes_wrong, texts_wrong, view_not_text, views_misplaced}
+use Rattle.layout_rules.specs.promise.Rules.{fault, fault_if, first_below, index_wrong, indices_wrong, is_negative, is_outside}
+use Rattle.layout_rules.specs.Rules.{misplaced, not_text, offset_falls, view_not_text}
+use Rattle.layout_rules.specs.promise.Rules.{prefix_wrong, prefixes_wrong, texts_wrong, views_misplaced}
 use Rattle.array_laws.specs.Shown.{shown_members}
 use Rattle.array_laws.proofs.NodeParts.{below-part, other-numbers}
 use Rattle.array_laws.proofs.ShownParts.{SameBytes, funext, shown-bytes}

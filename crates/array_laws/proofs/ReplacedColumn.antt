@@ -7,7 +7,7 @@ use Rattle.raw_array.specs.promise.Members.{ArrayTree}
 use Rattle.data_types.specs.promise.KindTrees.{KindTree}
 use Rattle.layout_rules.specs.promise.Values.{each, field_items, row_items, rows_of, tree_items, value_at, values_of}
 use Rattle.layout_rules.specs.promise.Walk.{ChunkOk, LayoutOk}
-use Rattle.data_types.specs.promise.ColumnKinds.{table_type}
+use Rattle.data_types.specs.ColumnKinds.{table_type}
 use Rattle.array_laws.proofs.PackedColumns.{like-chunk, like-rows}
 use Rattle.array_laws.proofs.PickedColumns.{map-each}
 use Rattle.array_laws.proofs.StructRows.{CutFacts, all-append, all-drop, all-take, cut-facts, lawful-append, lawful-drop, lawful-take, row-append, row-drop}

@@ -5,7 +5,8 @@ use Rattle.std.specs.Int.Signed.{≤ℤ_refl}
 use Rattle.raw_array.specs.promise.Members.{ArrayMembers}
 use Rattle.layout_rules.specs.declared.rule.Numbers.{Numbers}
 use Rattle.layout_rules.specs.promise.Layout.{items, first, end, natural, offset}
-use Rattle.layout_rules.specs.promise.Rules.{fault_if, fault, is_negative, first_below, offset_falls, offsets_fall}
+use Rattle.layout_rules.specs.promise.Rules.{fault_if, fault, is_negative, first_below, offsets_fall}
+use Rattle.layout_rules.specs.Rules.{offset_falls}
 use Rattle.layout_rules.proofs.Firsts.{first_below-none_at}
 use Rattle.layout_rules.proofs.TextData.{natural-rise, not_zero}
 

@@ -13,7 +13,8 @@ use Rattle.layout_rules.specs.declared.rule.LayoutRule.{LayoutRule}
 use Rattle.layout_rules.specs.declared.rule.LayoutRule.TheVariants as rules
 use Rattle.layout_rules.specs.declared.rule.Numbers.{Numbers}
 use Rattle.layout_rules.specs.promise.Layout.{bytes_or_none, end, first, is_valid, is_valid_by, items, layout_of, natural, need, offset_in, offsets_need}
-use Rattle.layout_rules.specs.promise.Rules.{Node, buffer_absent, buffer_short, child_short, count_wrong, fails, falls_in, fault, fault_if, first_below, in_order}
+use Rattle.layout_rules.specs.promise.Rules.{Node, buffer_absent, child_short, count_wrong, fails, falls_in, fault, fault_if, first_below, in_order}
+use Rattle.layout_rules.specs.Rules.{buffer_short}
 use Rattle.layout_rules.specs.promise.Rules.{indices_wrong, is_behind_offsets, is_negative, items_need, length_if, live_length, null_count_wrong, null_count_wrong_in}
 use Rattle.layout_rules.specs.promise.Rules.{null_total, offsets_fall, offsets_fall_if, one_if, prefixes_wrong, short_child, texts_wrong, views_misplaced}
 use Rattle.data_types.specs.promise.Ways.{Steps}

@@ -4,7 +4,8 @@ use Rattle.std.specs.Prelude.{if◌then◌else◌, nat_lt}
 use Rattle.raw_array.specs.promise.Members.{ArrayMembers}
 use Rattle.layout_rules.specs.declared.layout.Layout.{Layout}
 use Rattle.layout_rules.specs.declared.layout.Layout.TheVariants.{NoBuffers, FixedWidth, TruthBits, ByOffsets, ListOffsets, FixedItems, ByChildren, Views}
-use Rattle.layout_rules.specs.promise.Layout.{buffer_count, bytes_or_none, named_need, offset, offset_in}
+use Rattle.layout_rules.specs.promise.Layout.{buffer_count, bytes_or_none, offset, offset_in}
+use Rattle.layout_rules.specs.Layout.{named_need}
 use Rattle.layout_rules.specs.promise.Rules.{null_count_wrong, null_count_wrong_in}
 use Rattle.array_laws.proofs.PlaceRules.{Buffers, size_at}
 use Rattle.array_laws.proofs.ShownParts.{SameBytes}

@@ -23,7 +23,7 @@ use Rattle.layout_rules.specs.declared.rule.LayoutRule.TheVariants as rules
 use Rattle.layout_rules.proofs.Walks.{first_some-append}
 use Rattle.layout_rules.proofs.Lawful.{first_fault-lawful, lawful-first_fault}
 use Rattle.layout_rules.proofs.ReadWithin.{any-path, live-of}
-use Rattle.data_types.specs.promise.ColumnKinds.{table_type}
+use Rattle.data_types.specs.ColumnKinds.{table_type}
 use Rattle.layout_rules.specs.promise.Rules.{in_order}
 use Rattle.layout_rules.proofs.NamedRules.{AreMet, none-fails}
 use Rattle.array_laws.proofs.NodeParts.{both-none, no-fault}

@@ -9,7 +9,7 @@ use Rattle.data_types.specs.promise.KindTrees.{KindTree}
 use Rattle.layout_rules.specs.promise.Layout.{end, natural}
 use Rattle.layout_rules.specs.promise.Values.{tree_items}
 use Rattle.layout_rules.specs.promise.Walk.{LayoutOk}
-use Rattle.data_types.specs.promise.ColumnKinds.{table_type}
+use Rattle.data_types.specs.ColumnKinds.{table_type}
 use Rattle.array_laws.proofs.ChunkParts.{struct-facts}
 use Rattle.array_laws.proofs.LawfulNodes.{lawful-live}
 

@@ -12,7 +12,7 @@ use Rattle.data_types.specs.promise.KindTrees.{KindTree}
 use Rattle.layout_rules.specs.promise.Layout.{first, items, is_valid}
 use Rattle.layout_rules.specs.promise.Values.{field_items, readers, row_items, tree_items, value_at}
 use Rattle.layout_rules.specs.promise.Walk.{LayoutOk}
-use Rattle.data_types.specs.promise.ColumnKinds.{table_type}
+use Rattle.data_types.specs.ColumnKinds.{table_type}
 use Rattle.raw_array.specs.Windows.{Window}
 use Rattle.array_laws.proofs.ChunkParts.{struct-facts}
 use Rattle.array_laws.proofs.PickedColumns.{AreCut, facts-cut}

@@ -10,13 +10,14 @@ use Rattle.raw_array.specs.promise.Members.{ArrayTree}
 use Rattle.layout_rules.specs.promise.Values.{rows_of}
 use Rattle.layout_rules.specs.promise.Walk.{ChunkOk}
 use Rattle.data_types.specs.promise.KindTrees.{KindTree}
-use Rattle.data_types.specs.promise.ColumnKinds.{table_type, type_of_column, type_of_columns, type_of_kind, types_of_columns}
+use Rattle.data_types.specs.promise.ColumnKinds.{type_of_columns, type_of_kind}
+use Rattle.data_types.specs.ColumnKinds.{table_type, type_of_column, types_of_columns}
 use Rattle.arr_move.specs.TreeActs.{Columns, FitParentWindow, InRange}
 use Rattle.array_laws.proofs.ColumnForm.{chunk-of, chunk-packed, fit-of, range-of, rows-packed, rows-picked}
 use Rattle.array_laws.proofs.ColumnTypes.{struct-type, type-at, type-fields, types-live, types-picked}
 use Rattle.array_laws.proofs.PackedColumns.{unpack-chunk, unpack-rows}
-use Rattle.data_types.specs.promise.Parts.{member_columns, packed, packed_columns, picked, unpacked, unpacked_columns}
-use Rattle.data_types.specs.Parts.{AreWithin, IsFields}
+use Rattle.data_types.specs.promise.Parts.{member_columns, picked}
+use Rattle.data_types.specs.Parts.{packed, packed_columns, unpacked, unpacked_columns, AreWithin, IsFields}
 use Rattle.array_laws.specs.Picking.{AreLive, Packed, Unpacked, packed_types, unpacked_types}
 
 -- ---- the types of the new columns

@@ -11,8 +11,9 @@ use Rattle.layout_rules.specs.declared.layout.Layout.TheVariants.{NoBuffers, Fix
 use Rattle.layout_rules.specs.declared.rule.Numbers.{Numbers}
 use Rattle.layout_rules.specs.promise.Layout.{buffer, bytes, bytes_or_none, data_need, end, first, is_valid, is_valid_by, items, layout_of, natural, need, offset}
 use Rattle.layout_rules.specs.promise.Layout.{view_width, offsets_need}
-use Rattle.layout_rules.specs.promise.Rules.{Node, buffer_absent, buffer_short, child_short, fault, fault_if, first_below, indices_wrong, is_behind_offsets}
-use Rattle.layout_rules.specs.promise.Rules.{is_negative, items_need, live_length, null_count_wrong, null_count_wrong_in, null_total, offset_falls, offsets_fall}
+use Rattle.layout_rules.specs.promise.Rules.{Node, buffer_absent, child_short, fault, fault_if, first_below, indices_wrong, is_behind_offsets}
+use Rattle.layout_rules.specs.Rules.{buffer_short, offset_falls}
+use Rattle.layout_rules.specs.promise.Rules.{is_negative, items_need, live_length, null_count_wrong, null_count_wrong_in, null_total, offsets_fall}
 use Rattle.layout_rules.specs.promise.Rules.{offsets_fall_if, prefixes_wrong, views_misplaced, short_child, texts_wrong, count_wrong, length_if, window_limit}
 use Rattle.layout_rules.proofs.Lawful.{left-none, right-none}
 use Rattle.layout_rules.proofs.Long.{long-bytes}

@@ -7,7 +7,7 @@ use Rattle.tree_model.specs.promise.TreeData.{Released, Live, absent, trees}
 use Rattle.raw_array.specs.promise.Members.{ArrayTree, members_of}
 use Rattle.raw_array.specs.Windows.{Window}
 use Rattle.data_types.specs.promise.KindTrees.{KindTree}
-use Rattle.data_types.specs.promise.ColumnKinds.{table_type}
+use Rattle.data_types.specs.ColumnKinds.{table_type}
 use Rattle.arr_move.specs.TreeActs.{Columns, cut, struct_members}
 
 -- no type is released

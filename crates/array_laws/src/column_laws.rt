@@ -1,8 +1,8 @@
 //! Laws on the columns of trees: picked, packed, unpacked and replaced.
 ghost use Rattle.std.specs.Prelude.{◌≡◌, ◌≤◌, ◌<◌, ◌+◌, ℕ, List, map, length, get_or, All, ◌++◌};
 ghost use Rattle.data_types.specs.promise.ColumnView.{members};
-ghost use Rattle.data_types.specs.promise.Parts.{member_columns, packed, packed_columns, picked, replaced, unpacked, unpacked_columns};
-ghost use Rattle.data_types.specs.Parts.{AreWithin, IsFields};
+ghost use Rattle.data_types.specs.promise.Parts.{member_columns, picked, replaced};
+ghost use Rattle.data_types.specs.Parts.{packed, packed_columns, unpacked, unpacked_columns, AreWithin, IsFields};
 ghost use Rattle.data_types.specs.promise.Table.{Column, Columns as StructOf, Members};
 ghost use Rattle.data_types.specs.promise.Value.{Null};
 ghost use Rattle.tree_model.specs.promise.TreeParts.{IsLive};
@@ -14,7 +14,8 @@ ghost use Rattle.data_types.specs.KindTrees.{NodesOk};
 ghost use Rattle.layout_rules.specs.promise.Values.{rows_of, tree_items, values_of};
 ghost use Rattle.layout_rules.specs.promise.Walk.{ChunkOk, LayoutOk};
 ghost use Rattle.arr_move.specs.TreeActs.{Columns, Distinct, FitParentWindow, InRange};
-ghost use Rattle.data_types.specs.promise.ColumnKinds.{table_type, type_of_columns, type_of_kind, types_of_columns};
+ghost use Rattle.data_types.specs.promise.ColumnKinds.{type_of_columns, type_of_kind};
+ghost use Rattle.data_types.specs.ColumnKinds.{table_type, types_of_columns};
 ghost use Rattle.array_laws.specs.Picking.{AreLive, Packed, Replaced, Unpacked, packed_types, unpacked_types};
 
 /// A law: columns of a lawful struct can be taken: each pick is the place of a child, which has the items of the struct's

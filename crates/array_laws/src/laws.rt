@@ -12,7 +12,7 @@ ghost use Rattle.layout_rules.specs.promise.Layout.{end};
 ghost use Rattle.layout_rules.specs.promise.Values.{rows_of, tree_items, values_of};
 ghost use Rattle.layout_rules.specs.promise.Walk.{ChunkOk, LayoutOk, first_chunk_fault, first_fault};
 ghost use Rattle.raw_array.specs.Windows.{FitsWindow, Window};
-ghost use Rattle.data_types.specs.promise.ColumnKinds.{table_type};
+ghost use Rattle.data_types.specs.ColumnKinds.{table_type};
 ghost use Rattle.array_laws.specs.Shown.{SameShown};
 ghost use Rattle.array_laws.specs.Pieces.{border, joined_pieces, piece, rows_of_pieces};
 ghost use Rattle.layout_rules.specs.promise.Rules.{window_limit};

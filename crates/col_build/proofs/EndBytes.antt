@@ -4,7 +4,8 @@ use Rattle.std.proofs.Math.Seq.{drop-append_seam}
 use Rattle.std.proofs.lemmas.List.{drop-take, length-take-le, take-take}
 use Rattle.std.specs.List.{concat, flat_map}
 use Rattle.data_types.specs.promise.Packed.{le_bytes, le_number, number_at}
-use Rattle.col_build.specs.promise.Encoding.{ends, offset_bytes}
+use Rattle.col_build.specs.promise.Encoding.{ends}
+use Rattle.col_build.specs.Encoding.{offset_bytes}
 use Rattle.col_build.specs.Holding.{end_at}
 
 number-back : (n : ℕ) → n < 2 ^ 32 → le_number (le_bytes 4 n) ≡ n

@@ -6,8 +6,8 @@ use Rattle.data_types.specs.promise.FieldText.{Form, Truths, Wholes, FloatBits, 
 use Rattle.data_types.specs.promise.Value.{Value, bytes_of}
 use Rattle.data_types.specs.declared.kind.DataType.{DataType}
 use Rattle.col_build.specs.Blocks.{AreSame, AreSameBut, count_if}
-use Rattle.col_build.specs.promise.Encoding.{buffers_if, encoded, if_some, is_wide, offset_bytes, validity_of}
-use Rattle.col_build.specs.Encoding.{HasForm}
+use Rattle.col_build.specs.promise.Encoding.{buffers_if, encoded, if_some, is_wide, validity_of}
+use Rattle.col_build.specs.Encoding.{offset_bytes, HasForm}
 use Rattle.col_build.specs.promise.Finished.{blocks_of, present_count}
 use Rattle.col_build.specs.Holding.{HasBytes, HasOffsets}
 use Rattle.col_build.specs.Settled.{HoldsWhole}

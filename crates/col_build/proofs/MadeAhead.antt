@@ -10,8 +10,8 @@ use Rattle.data_types.specs.promise.Packed.{le_bytes, offset_width, stored}
 use Rattle.data_types.specs.promise.Storage.{storage_of}
 use Rattle.data_types.specs.promise.Value.{Value, Null, Truth, Whole, Bits, Bytes, Items, Fields, byte_total, bytes_of}
 use Rattle.data_types.specs.declared.kind.DataType.{DataType}
-use Rattle.col_build.specs.promise.Encoding.{ends, offset_bytes, stored_item}
-use Rattle.col_build.specs.Encoding.{Fits}
+use Rattle.col_build.specs.promise.Encoding.{ends, stored_item}
+use Rattle.col_build.specs.Encoding.{offset_bytes, Fits}
 use Rattle.col_build.specs.Holding.{HasBytes, Holds, bytes_in, end_at, kept_bytes, offsets_in}
 use Rattle.col_build.specs.Settled.{HoldsWhole, IsNarrow, IsNumbers}
 use Rattle.col_build.specs.Shapes.{shape_fault, shape_in}

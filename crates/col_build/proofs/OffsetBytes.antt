@@ -7,7 +7,8 @@ use Rattle.std.specs.Prelude.{map}
 use Rattle.std.specs.List.{concat, flat_map}
 use Rattle.data_types.specs.promise.Packed.{le_bytes, offset_width}
 use Rattle.data_types.specs.promise.Value.{Value, bytes_of}
-use Rattle.col_build.specs.promise.Encoding.{ends, offset_bytes}
+use Rattle.col_build.specs.promise.Encoding.{ends}
+use Rattle.col_build.specs.Encoding.{offset_bytes}
 use Rattle.col_build.specs.Holding.{HasOffsets}
 
 ends-push : (at : ℕ) (items : List (List ℕ)) (item : List ℕ) → ends at (items ++ item ∷ []) ≡ ends at items ++ (at + length (concat items) + length item) ∷ []

@@ -11,10 +11,9 @@ use Rattle.data_types.specs.Packed.{IsWidth}
 use Rattle.data_types.specs.promise.FieldText.{form_of, in_range}
 use Rattle.data_types.specs.promise.Value.{Value, Truth, Whole, byte_total, bytes_of}
 use Rattle.data_types.specs.declared.kind.DataType.{DataType}
-use Rattle.col_build.specs.promise.Encoding.{bit_bytes, if_some, is_set, is_wide, null_total, offset_bytes, stored_item, validity_of}
-use Rattle.col_build.specs.Encoding.{push_fault}
-use Rattle.col_build.specs.Holding.{HasBytes, HasEnd, HasOffsets, HasValidity, Holds, HoldsFew, HoldsFloats, HoldsSome, HoldsWholes, ShapeOk, Takes, bytes_in, kept_bytes, kept_offsets}
-use Rattle.col_build.specs.Holding.{end_at, offsets_in}
+use Rattle.col_build.specs.promise.Encoding.{bit_bytes, if_some, is_set, is_wide, null_total, stored_item, validity_of}
+use Rattle.col_build.specs.Encoding.{offset_bytes, push_fault}
+use Rattle.col_build.specs.Holding.{HasBytes, HasEnd, HasOffsets, HasValidity, Holds, HoldsFew, HoldsFloats, HoldsSome, HoldsWholes, ShapeOk, Takes, bytes_in, kept_bytes, kept_offsets, end_at, offsets_in}
 use Rattle.col_build.specs.Settled.{IsNarrow, IsNumbers}
 use Rattle.col_build.specs.Shapes.{range_fault, shape_fault, shape_in}
 use Rattle.col_build.specs.declared.builder.Builder.{Builder}

@@ -2,7 +2,7 @@
 use Rattle.std.specs.Prelude.{◌≡◌, ℕ, ◌+◌, ◌^◌, ◌≤◌, Bool, true, false, not, nat_lt, ◌==◌, ◌&&◌, if◌then◌else◌, List, [], length}
 use Rattle.std.specs.Prelude.{Option, None, Some, All}
 use Rattle.std.specs.Str.{is_utf8}
-use Rattle.data_types.specs.promise.Packed.{stored}
+use Rattle.data_types.specs.promise.Packed.{le_bytes, offset_width}
 use Rattle.data_types.specs.promise.FieldText.{Form, Truths, Wholes, FloatBits, Text, HexBytes, SizedHex, Decimals, form_of, in_range}
 use Rattle.data_types.specs.Kinds.{KindOk}
 use Rattle.data_types.specs.promise.Value.{Value, Null, Truth, Whole, Bits, Bytes}
@@ -11,7 +11,8 @@ use Rattle.data_types.specs.declared.kind.DataType.{DataType}
 use Rattle.col_build.specs.declared.item.PushFault.{PushFault}
 use Rattle.col_build.specs.declared.item.PushFault.TheVariants.{WrongKind, OutOfRange, NotText}
 pub use Rattle.data_types.specs.promise.Value.{is_null, bytes_of, byte_total}
-use Rattle.col_build.specs.promise.Encoding.{are_within, is_by_offsets, is_wide, is_within}
+use Rattle.col_build.specs.promise.Encoding.{are_within, is_by_offsets, is_wide, is_within, ends}
+use Rattle.std.specs.List.{flat_map}
 
 -- ---- which items a column takes
 
@@ -72,3 +73,6 @@ pub record Fits (kind : DataType) (values : List Value) : Type 0 where
   pub each : All (λ value. push_fault kind [] value ≡ None) values
   pub small : are_within (is_wide kind) (form_of kind) (byte_total values) ≡ true
   pub bounded : are_bounded (form_of kind) (byte_total values) ≡ true
+
+abbrev pub offset_bytes : Bool → List (List ℕ) → List ℕ
+offset_bytes wide items = flat_map (le_bytes (offset_width wide)) (ends 0 items)

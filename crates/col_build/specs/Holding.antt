@@ -7,8 +7,8 @@ use Rattle.data_types.specs.promise.Storage.{storage_of}
 use Rattle.data_types.specs.declared.storage.Storage.TheVariants as stored
 use Rattle.data_types.specs.promise.Value.{Value, bytes_of}
 use Rattle.data_types.specs.declared.kind.DataType.{DataType}
-use Rattle.col_build.specs.promise.Encoding.{bit_bytes, if_some, is_set, null_total, offset_bytes, stored_item, validity_of}
-use Rattle.col_build.specs.Encoding.{Fits, most_values, push_fault}
+use Rattle.col_build.specs.promise.Encoding.{bit_bytes, if_some, is_set, null_total, stored_item, validity_of}
+use Rattle.col_build.specs.Encoding.{offset_bytes, Fits, most_values, push_fault}
 use Rattle.col_build.specs.Shapes.{IsAnswer, shape_in}
 use Rattle.col_build.specs.declared.builder.Builder.{Builder}
 use Rattle.col_build.specs.declared.item.PushFault.{PushFault}

@@ -1,11 +1,11 @@
 //! Items, each behind the last in the buffers of a shape ("Arrow Columnar Format", "Physical memory layout").
-ghost use Rattle.std.specs.Prelude.{◌≡◌, ◌≢◌, ◌==◌, ◌⊎◌, ◌+◌, ◌^◌, ◌<◌, ◌++◌, ◌∷◌, [], ℕ, Bool, List, None, Some, length, map, replicate, true, IsTrue, OnOk};
-ghost use Rattle.std.specs.Prelude.{OnErr, IfErr};
+ghost use Rattle.std.specs.Prelude.{◌≡◌, ◌≢◌, ◌==◌, ◌⊎◌, ◌+◌, ◌^◌, ◌<◌, ◌++◌, ◌∷◌, [], ℕ, Bool, List, None, Some, length, map, replicate, true, IsTrue, OnOk, OnErr, IfErr};
 ghost use Rattle.std.specs.List.{concat};
 ghost use Rattle.data_types.specs.promise.Packed.{le_bytes, offset_width};
 ghost use Rattle.data_types.specs.Packed.{IsWidth};
 ghost use Rattle.data_types.specs.promise.Value.{Value, bytes_of};
-ghost use Rattle.col_build.specs.promise.Encoding.{bit_bytes, is_set, offset_bytes, stored_item};
+ghost use Rattle.col_build.specs.promise.Encoding.{bit_bytes, is_set, stored_item};
+ghost use Rattle.col_build.specs.Encoding.{offset_bytes};
 ghost use Rattle.col_build.specs.Items.{value_of};
 ghost use Rattle.col_build.specs.Holding.{HasBytes, HasOffsets, ShapeOk};
 ghost use Rattle.col_build.specs.Shapes.{IsAnswer, Stored, between_fault, range_fault, reaches, shape_fault};

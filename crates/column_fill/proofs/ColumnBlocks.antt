@@ -17,7 +17,8 @@ use Rattle.data_types.specs.declared.kind.DataType.{DataType}
 use Rattle.col_build.proofs.ShapeFacts.{FormOk, form-ok}
 use Rattle.col_build.specs.promise.Encoding.{bit_bytes, buffers_by, buffers_if, if_some, in_place, is_set, is_wide, null_total, stored_item, validity_of}
 use Rattle.col_build.specs.promise.Finished.{blocks_of, present_count}
-use Rattle.stage_model.specs.promise.Traffic.{flat_blocks, form_blocks, one_if_any, row_blocks, validity_blocks}
+use Rattle.stage_model.specs.promise.Traffic.{flat_blocks, form_blocks, one_if_any, validity_blocks}
+use Rattle.stage_model.specs.Traffic.{row_blocks}
 
 -- ---- the validity bitmap
 

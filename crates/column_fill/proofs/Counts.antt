@@ -5,7 +5,8 @@ use Rattle.data_types.specs.promise.Table.{Column}
 use Rattle.tree_model.specs.promise.TreeParts.{children_of}
 use Rattle.tree_model.proofs.Lists.{tree_list-trees}
 use Rattle.raw_array.specs.promise.Members.{ArrayTree}
-use Rattle.data_types.specs.promise.ColumnKinds.{type_of_column, type_of_columns, types_of_columns}
+use Rattle.data_types.specs.promise.ColumnKinds.{type_of_columns}
+use Rattle.data_types.specs.ColumnKinds.{type_of_column, types_of_columns}
 use Rattle.data_types.specs.promise.KindTrees.{KindTree}
 use Rattle.layout_rules.specs.promise.Values.{each, row_items, rows_of, tree_items}
 

@@ -20,9 +20,11 @@ use Rattle.tree_model.specs.promise.TreeCost.{Nodes}
 use Rattle.col_build.specs.promise.Encoding.{encoded}
 use Rattle.col_build.specs.Encoding.{Fits}
 use Rattle.col_build.specs.promise.Finished.{blocks_of}
-use Rattle.data_types.specs.promise.ColumnKinds.{table_type, type_of_column, type_of_columns, types_of_columns}
+use Rattle.data_types.specs.promise.ColumnKinds.{type_of_columns}
+use Rattle.data_types.specs.ColumnKinds.{table_type, type_of_column, types_of_columns}
 use Rattle.data_types.specs.promise.KindTrees.{KindTree}
-use Rattle.schema_check.specs.promise.ColumnSchema.{SchemaOf, schema_of_column}
+use Rattle.schema_check.specs.promise.ColumnSchema.{SchemaOf}
+use Rattle.schema_check.specs.ColumnSchema.{schema_of_column}
 use Rattle.schema_check.specs.promise.Schemas.{TypedOf}
 use Rattle.layout_rules.specs.promise.Values.{each, rows_of, values_of}
 use Rattle.layout_rules.specs.promise.Walk.{ChunkOk}

@@ -5,7 +5,8 @@ use Rattle.std.specs.Prelude.{if◌then◌else◌, nat_eq}
 use Rattle.std.proofs.lemmas.Fmt.{decimal_by_steps, decimal_digit, decimal_nonempty, length-decimal-le}
 use Rattle.std.proofs.lemmas.List.{length_push}
 use Rattle.std.proofs.Math.Nat.{pow-suc}
-use Rattle.csv_model.specs.promise.Made.{made, made_row, made_rows, paid_text}
+use Rattle.csv_model.specs.promise.Made.{made, made_row, made_rows}
+use Rattle.csv_model.specs.Made.{paid_text}
 
 -- a digit more is ten times as much
 longer : (n : ℕ) (ds : List ℕ) → 10 ≤ n → n / 10 < 10 ^ length ds → n < 10 ^ length (ds ++ ((48 + n % 10) ∷ []))

@@ -1,7 +1,8 @@
 -- A row from the pieces that are appended one after the other.
 use Rattle.std.proofs.Common.{◌≡◌, ℕ, ◌+◌, ◌%◌, List, [], ◌∷◌, ◌++◌, ◌∙◌, codes, decimal, ap, sym, append_assoc, refl, arith}
 use Rattle.std.proofs.lemmas.Fmt.{decimal_digit}
-use Rattle.csv_model.specs.promise.Made.{made_row, paid_text}
+use Rattle.csv_model.specs.promise.Made.{made_row}
+use Rattle.csv_model.specs.Made.{paid_text}
 
 pieces : (old a b c d e f g h : List ℕ) → old ++ a ++ b ++ (c ++ d) ++ e ++ f ++ (g ++ h) ≡ old ++ (a ++ b ++ c ++ d ++ e ++ f ++ g ++ h)
 pieces old a b c d e f g h = simp append_assoc refl

@@ -7,7 +7,8 @@
 //! [`made`] asks for the one block of memory of the text before it writes the first byte, and answers `NoMemory` only where
 //! there is none. A row takes no memory of its own. The definitions are in `specs/promise/Made.antt`.
 ghost use Rattle.std.specs.Prelude.{◌≡◌, ◌≤◌, ◌++◌, ℕ, length, codes, IfOk, OnOk};
-ghost use Rattle.csv_model.specs.promise.Made.{made, made_row, paid_text};
+ghost use Rattle.csv_model.specs.promise.Made.{made, made_row};
+ghost use Rattle.csv_model.specs.Made.{paid_text};
 
 use itoa::Buffer;
 use std::alloc::Global;

@@ -7,7 +7,8 @@ use Rattle.std.specs.List.{filter, onto_first}
 use Rattle.col_build.specs.declared.builder.Builder.{Builder}
 use Rattle.data_types.specs.promise.Table.{Column, Row}
 use Rattle.data_types.specs.declared.row_fault.RowFault.{RowFault}
-use Rattle.csv_model.specs.promise.Batches.{Chunks, batches_if, cut, rows_before, whole_batches}
+use Rattle.csv_model.specs.promise.Batches.{Chunks, batches_if, cut, rows_before}
+use Rattle.csv_model.specs.Batches.{whole_batches}
 use Rattle.csv_model.specs.promise.Reading.{Record, body_from}
 use Rattle.csv_read.specs.BatchesLeft.{BatchesLeft, IsNextBatch, batches_left, behind, columns_in}
 use Rattle.csv_read.specs.BodyRows.{with_rows}

@@ -10,7 +10,8 @@ use Rattle.layout_rules.specs.promise.Values.{each, tree_items, values_of}
 use Rattle.layout_rules.specs.promise.Walk.{LayoutOk}
 use Rattle.arr_export.specs.promise.ArrayTrees.{column_tree}
 use Rattle.arr_export.specs.ArrayTrees.{AreLawful, HaveValues, flat_type, rows_of_values}
-use Rattle.data_types.specs.promise.ColumnKinds.{type_of_kind, types_of_columns}
+use Rattle.data_types.specs.promise.ColumnKinds.{type_of_kind}
+use Rattle.data_types.specs.ColumnKinds.{types_of_columns}
 use Rattle.csv_read.specs.Body.{column_values}
 use Rattle.csv_read.specs.Chunks.{FitFrom, FitsKind, column_array, column_arrays}
 

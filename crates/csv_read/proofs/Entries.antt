@@ -3,10 +3,12 @@ use Rattle.std.proofs.Common.{◌≡◌, ◌∙◌, ℕ, List, not, position, op
 use Rattle.std.specs.Borrow.{Bor}
 use Rattle.std.specs.List.{find}
 use Rattle.std.specs.Str.{bytes_eq}
-use Rattle.csv_model.specs.promise.Header.{first_unknown, is_among, kind_or_text, type_for}
+use Rattle.csv_model.specs.promise.Header.{is_among, kind_or_text, type_for}
+use Rattle.csv_model.specs.Header.{first_unknown}
 use Rattle.stage_plan.specs.declared.types.TypeEntry.{TypeEntry}
 use Rattle.stage_plan.specs.PlanWords.{has_text}
-use Rattle.stage_plan.specs.promise.Entries.{entries_of, entry_of}
+use Rattle.stage_plan.specs.promise.Entries.{entries_of}
+use Rattle.stage_plan.specs.Entries.{entry_of}
 use Rattle.csv_read.proofs.Remaining.{find-of-map, position-of-map, position-same}
 
 pub unknown-is : (entries : List TypeEntry) (keys : List (Bor (List ℕ))) (names : List (List ℕ)) → ((name : List ℕ) → has_text keys name ≡ is_among names name)

@@ -10,8 +10,9 @@ use Rattle.std.specs.Str.{bytes_eq}
 use Rattle.data_types.specs.declared.kind.DataType.{DataType}
 use Rattle.data_types.specs.declared.kind.DataType.TheVariants as kinds
 use Rattle.data_types.specs.promise.Table.{Column}
-use Rattle.csv_model.specs.promise.Header.{Entry, column_for, fault_at, first_not_text, first_twice, header_columns, header_of, is_among, most_columns, names_fault}
-use Rattle.csv_model.specs.promise.Header.{twice_behind, twice_fault, type_for, unknown_fault}
+use Rattle.csv_model.specs.promise.Header.{Entry, fault_at, first_twice, header_of, is_among, most_columns}
+use Rattle.csv_model.specs.Header.{first_not_text, column_for, header_columns, names_fault, twice_fault, unknown_fault}
+use Rattle.csv_model.specs.promise.Header.{twice_behind, type_for}
 use Rattle.csv_model.specs.promise.Reading.{Record}
 use Rattle.csv_model.specs.declared.fault.HeaderFault.{HeaderFault}
 use Rattle.csv_model.specs.declared.fault.HeaderFault.TheVariants as faults

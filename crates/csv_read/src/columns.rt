@@ -4,7 +4,8 @@ ghost use Rattle.std.specs.List.{find};
 ghost use Rattle.std.specs.Str.{bytes_eq};
 ghost use Rattle.data_types.specs.ColumnView.{column_of};
 ghost use Rattle.data_types.specs.Kinds.{KindOk};
-ghost use Rattle.csv_model.specs.promise.Header.{column_for, header_columns, type_for};
+ghost use Rattle.csv_model.specs.promise.Header.{type_for};
+ghost use Rattle.csv_model.specs.Header.{column_for, header_columns};
 ghost use Rattle.stage_plan.specs.PlanWords.{texts};
 ghost use Rattle.stage_plan.specs.promise.Entries.{entries_of};
 

@@ -1,6 +1,7 @@
 //! The names of columns: that they are text, that none is there twice, and that entries know them.
 ghost use Rattle.std.specs.Prelude.{◌≡◌, ◌≢◌, ◌≤◌, ◌<◌, ℕ, List, length, IfErr, OnOk, IfSome, None, Some};
-ghost use Rattle.csv_model.specs.promise.Header.{first_not_text, first_unknown, names_fault, is_among, most_columns};
+ghost use Rattle.csv_model.specs.promise.Header.{is_among, most_columns};
+ghost use Rattle.csv_model.specs.Header.{first_not_text, first_unknown, names_fault};
 ghost use Rattle.stage_plan.specs.PlanWords.{has_text, texts};
 ghost use Rattle.stage_plan.specs.promise.Entries.{entries_of};
 

@@ -5,7 +5,8 @@ use Rattle.std.proofs.lemmas.Bool.{cases_Bool}
 use Rattle.std.proofs.lemmas.List.Elements.{All-from_recursion}
 use Rattle.std.specs.List.{AllByRecursion, concat, filter}
 use Rattle.data_types.specs.FieldText.{IsValueOf}
-use Rattle.data_types.specs.promise.Parts.{column_values, joined_rows}
+use Rattle.data_types.specs.promise.Parts.{column_values}
+use Rattle.data_types.specs.Parts.{joined_rows}
 use Rattle.data_types.specs.promise.Table.{Column, Kind, Row}
 use Rattle.data_types.specs.promise.Value.{Null, byte_total, bytes_of}
 use Rattle.data_types.specs.declared.row_fault.RowFault.{RowFault}

@@ -13,12 +13,14 @@ use Rattle.data_types.specs.declared.kind.DataType.{DataType}
 use Rattle.data_types.specs.declared.kind.DataType.TheVariants as kinds
 use Rattle.data_types.specs.promise.Table.{Column, Kind, Flat, Dict, Columns}
 use Rattle.data_types.specs.promise.Value.{Value, Null, Truth, Whole, Bits, Bytes, Items, Fields}
-use Rattle.csv_model.specs.promise.Text.{row_fields, rows_text}
+use Rattle.csv_model.specs.promise.Text.{row_fields}
+use Rattle.csv_model.specs.Text.{rows_text}
 use Rattle.tree_model.specs.promise.TreeParts.{children_of}
 use Rattle.tree_model.specs.promise.TreeData.{tree_list, trees}
 use Rattle.data_types.specs.promise.KindTrees.{KindTree}
 use Rattle.layout_rules.specs.promise.Values.{each, row_items}
-use Rattle.data_types.specs.promise.ColumnKinds.{type_of_column, type_of_columns, types_of_columns}
+use Rattle.data_types.specs.promise.ColumnKinds.{type_of_columns}
+use Rattle.data_types.specs.ColumnKinds.{type_of_column, types_of_columns}
 use Rattle.arr_import.specs.Cols.{window_of}
 use Rattle.arr_import.specs.Window.{Window, child_window, item_at}
 use Rattle.csv_write.specs.ChunkTexts.{AreChildren, HasRow, IsChild, row_at, rows_at, text_in}

@@ -6,7 +6,7 @@ use Rattle.std.proofs.lemmas.List.{append-nil, append_assoc, map-append}
 use Rattle.std.proofs.lemmas.List.Folds.{concat-append}
 use Rattle.std.specs.List.{concat}
 use Rattle.csv.specs.Writing.{default_writer, row_text}
-use Rattle.data_types.specs.promise.Parts.{joined_rows}
+use Rattle.data_types.specs.Parts.{joined_rows}
 use Rattle.data_types.specs.promise.Table.{Column, Row}
 use Rattle.tree_model.specs.promise.TreeData.{Released}
 use Rattle.tree_model.specs.promise.TreeParts.{IsLive}
@@ -14,7 +14,8 @@ use Rattle.raw_array.specs.promise.Members.{ArrayTree}
 use Rattle.unit_pass.specs.promise.Tally.{risen}
 use Rattle.unit_pass.specs.Tally.{Tally}
 use Rattle.unit_pass.specs.declared.no_memory.NoMemory.{NoMemory}
-use Rattle.csv_model.specs.promise.Text.{row_fields, rows_text}
+use Rattle.csv_model.specs.promise.Text.{row_fields}
+use Rattle.csv_model.specs.Text.{rows_text}
 use Rattle.data_types.specs.promise.KindTrees.{KindTree}
 use Rattle.layout_rules.specs.promise.Values.{rows_of}
 use Rattle.data_types.specs.promise.ColumnKinds.{type_of_columns}

@@ -2,7 +2,7 @@
 ghost use Rattle.std.specs.Prelude.{◌≡◌, ◌++◌, ℕ, List, Some, map, IfOk, OnOk};
 ghost use Rattle.data_types.specs.ColumnView.{column_of, kind_of};
 ghost use Rattle.data_types.specs.promise.FieldText.{form_of};
-ghost use Rattle.csv_model.specs.promise.Text.{header_text};
+ghost use Rattle.csv_model.specs.Text.{header_text};
 ghost use Rattle.data_types.specs.ColumnForms.{IsColumnKind};
 ghost use Rattle.csv_write.specs.CsvTexts.{AreFormsOf, IsFormOf};
 ghost use Rattle.field_codec.specs.FieldForms.{IsProper, form_in};

@@ -8,7 +8,7 @@
 ghost use Rattle.std.specs.Prelude.{◌≡◌, ◌++◌, ℕ, List, map, IfOk, OnOk};
 ghost use Rattle.data_types.specs.ColumnView.{column_of};
 ghost use Rattle.data_types.specs.promise.Table.{Column};
-ghost use Rattle.csv_model.specs.promise.Text.{header_text, rows_text};
+ghost use Rattle.csv_model.specs.Text.{header_text, rows_text};
 ghost use Rattle.data_types.specs.promise.ColumnKinds.{type_of_columns};
 ghost use Rattle.arr_import.specs.Cols.{window_of};
 ghost use Rattle.csv_write.specs.CsvTexts.{HasText, rows_in};

@@ -2,10 +2,10 @@
 ghost use Rattle.std.specs.Prelude.{◌≡◌, ◌≤◌, ◌+◌, ◌++◌, ◌∷◌, List, Option, Some, None, ℕ, IsTrue, IfOk, IfErr, OnOk, OnErr};
 ghost use Rattle.std.specs.Thread.{IsSync};
 ghost use Rattle.data_types.specs.promise.Table.{Column};
-ghost use Rattle.data_types.specs.promise.Parts.{joined_rows};
+ghost use Rattle.data_types.specs.Parts.{joined_rows};
 ghost use Rattle.tree_model.specs.promise.TreeData.{Released};
 ghost use Rattle.raw_array.specs.promise.Members.{ArrayTree, Cost};
-ghost use Rattle.csv_model.specs.promise.Text.{rows_text};
+ghost use Rattle.csv_model.specs.Text.{rows_text};
 ghost use Rattle.csv_write.specs.CsvTexts.{HasText};
 ghost use Rattle.data_types.specs.KindTrees.{TypedOk};
 ghost use Rattle.data_types.specs.promise.TypedView.{typed_of};

@@ -18,10 +18,10 @@ use Rattle.std.proofs.lemmas.Str.Parse.{IsNumeralModel, numerals_by_value}
 use Rattle.std.proofs.Math.Nat.{div-div-eq-div-mul, div-le_self, pow-succ', pow-zero, pow-le-pow_right}
 use Rattle.data_types.specs.declared.kind.DataType.{DataType}
 use Rattle.data_types.specs.promise.Value.{Value, Null, Truth, Whole, Bits, Bytes, Items, Fields}
-use Rattle.data_types.specs.promise.FieldText.{Form, is_numeral, in_range, read_whole, read_bits, hex_bytes, fraction_of, unscaled, read_unscaled, read_decimal}
+use Rattle.data_types.specs.promise.FieldText.{Form, is_numeral, in_range, read_whole, hex_bytes, fraction_of, unscaled, read_unscaled, read_decimal}
+use Rattle.data_types.specs.FieldText.{read_bits, IsFlatForm, IsSomeFlat, IsFlatKind, IsOfForm, IsOfSome, IsValueOf}
 use Rattle.data_types.specs.promise.FieldText.{read_form, read_text, read_field, last_digits, hex_text, point_text, decimal_text, written_form, written_if}
 use Rattle.data_types.specs.promise.FieldText.{written_text, form_of}
-use Rattle.data_types.specs.FieldText.{IsFlatForm, IsSomeFlat, IsFlatKind, IsOfForm, IsOfSome, IsValueOf}
 use Rattle.data_types.specs.promise.FieldText.Form.{Truths, Wholes, FloatBits, Text, HexBytes, SizedHex, Decimals}
 
 -- ---- digits

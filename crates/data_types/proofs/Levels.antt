@@ -9,8 +9,8 @@ use Rattle.data_types.specs.Kinds.{KindOk}
 use Rattle.data_types.specs.declared.typed.Typed.{Typed, out-Typed}
 use Rattle.data_types.specs.declared.typed.Typed.TheOpen.{Typed-F}
 use Rattle.data_types.specs.declared.typed.Typed.TheFolds.{map-Typed, fold_out-Typed}
-use Rattle.data_types.specs.promise.TypedView.{typed_of, layer, dict_of}
-use Rattle.data_types.specs.TypedView.{dict_in, kids_of}
+use Rattle.data_types.specs.promise.TypedView.{typed_of, dict_of}
+use Rattle.data_types.specs.TypedView.{layer, dict_in, kids_of}
 
 dict_at : (x : Typed-F Typed) (d : Option (Box Typed)) → x.dict ≡ d → dict_of (map-Typed Typed KindTree typed_of x).dict ≡ dict_in d
 dict_at x None e = rw e refl

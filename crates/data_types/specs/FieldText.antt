@@ -1,11 +1,13 @@
 -- The flat column kinds, and the values of each: their ranges and sizes.
-use Rattle.std.specs.Prelude.{◌≡◌, ◌⊎◌, ◌^◌, ◌<◌, ◌≤◌, nat_abs}
+use Rattle.std.specs.Prelude.{◌≡◌, ◌⊎◌, ◌^◌, ◌<◌, ◌≤◌, nat_abs, ℕ, ◌==◌, ◌&&◌, if◌then◌else◌, List}
 use Rattle.std.specs.Prelude.{IsTrue, length, Option, None, Some}
-use Rattle.std.specs.List.{AllByRecursion}
+use Rattle.std.specs.List.{AllByRecursion, list_all}
 use Rattle.std.specs.Str.{is_utf8}
 use Rattle.data_types.specs.declared.kind.DataType.{DataType}
 use Rattle.data_types.specs.promise.Value.{Value, Null, Truth, Whole, Bits, Bytes}
 use Rattle.data_types.specs.promise.FieldText.{Decimals, FloatBits, Form, HexBytes, SizedHex, Text, Truths, Wholes, form_of, in_range, places}
+use Rattle.std.specs.Char.{is_ascii_hexdigit}
+use Rattle.std.specs.Str.Parse.{digits_value}
 
 -- ---- values of a type
 
@@ -43,3 +45,7 @@ IsOfSome (Some form) value = IsOfForm form value
 abbrev pub IsValueOf : DataType → Value → Type 0
 IsValueOf type Null = Unit {0}
 IsValueOf type value = IsOfSome (form_of type) value
+
+-- exactly this many hexadecimal digits, most significant first
+abbrev pub read_bits : ℕ → List ℕ → Option Value
+read_bits digits text = if (length text == digits) && list_all is_ascii_hexdigit text then Some (Bits (digits_value 16 text)) else None

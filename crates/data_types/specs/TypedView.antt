@@ -4,7 +4,9 @@ use Rattle.std.specs.Global.{Box}
 use Rattle.data_types.specs.declared.kind.DataType.{DataType}
 use Rattle.data_types.specs.promise.KindTrees.{KindTree}
 use Rattle.data_types.specs.declared.typed.Typed.{Typed, out-Typed}
-use Rattle.data_types.specs.promise.TypedView.{typed_of}
+use Rattle.data_types.specs.promise.TypedView.{typed_of, dict_of}
+use Rattle.tree_model.specs.promise.TreeData.{Live, trees, maybe_tree}
+use Rattle.data_types.specs.declared.typed.Typed.TheOpen.{Typed-F}
 
 -- ---- one level of the code's tree
 
@@ -17,3 +19,6 @@ kids_of t = map typed_of (out-Typed t).kids.items
 abbrev pub dict_in : Option (Box Typed) → Option KindTree
 dict_in None = None
 dict_in (Some dict) = Some (typed_of dict.value)
+
+abbrev pub layer : Typed-F KindTree → KindTree
+layer t = Live t.kind (trees t.kids.items) (maybe_tree (dict_of t.dict))

@@ -1,6 +1,7 @@
 //! The texts of ways to nodes.
 ghost use Rattle.std.specs.Prelude.{Some};
-ghost use Rattle.data_types.specs.promise.WayTexts.{step_text, way_text};
+ghost use Rattle.data_types.specs.promise.WayTexts.{way_text};
+ghost use Rattle.data_types.specs.WayTexts.{step_text};
 ghost use Rattle.data_types.specs.promise.Ways.{steps_of};
 
 use crate::path::{DICTIONARY_STEP, Path};

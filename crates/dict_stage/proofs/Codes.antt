@@ -18,7 +18,7 @@ use Rattle.col_build.specs.Holding.{Adds, Holds, Takes as IsTaken}
 use Rattle.col_build.specs.declared.builder.Builder.{Builder}
 use Rattle.layout_rules.specs.promise.Values.{each, value_at}
 use Rattle.arr_import.specs.Window.{Window, item_at, items_of}
-use Rattle.stage_model.specs.promise.Dictionary.{has_bytes}
+use Rattle.stage_model.specs.Dictionary.{has_bytes}
 use Rattle.stream_face.specs.Lawful.{HasBytes}
 use Rattle.column_fill.proofs.Counts.{length-each}
 use Rattle.column_fill.specs.Takes.{IsStored, Takes}

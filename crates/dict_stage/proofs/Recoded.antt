@@ -22,8 +22,10 @@ use Rattle.col_build.specs.Encoding.{Fits}
 use Rattle.col_build.specs.promise.Finished.{blocks_of, present_count}
 use Rattle.arr_export.specs.promise.ArrayTrees.{column_tree, made_buffers}
 use Rattle.arr_export.specs.ArrayTrees.{AreIndices, IsPlaceOf, looked_up}
-use Rattle.stage_model.specs.promise.Dictionary.{Dictionary, has_bytes}
-use Rattle.stage_model.specs.promise.Traffic.{Made, flat_blocks, index_blocks, kind_blocks, row_blocks}
+use Rattle.stage_model.specs.promise.Dictionary.{Dictionary}
+use Rattle.stage_model.specs.Dictionary.{has_bytes}
+use Rattle.stage_model.specs.promise.Traffic.{Made, flat_blocks, kind_blocks}
+use Rattle.stage_model.specs.Traffic.{index_blocks, row_blocks}
 use Rattle.stream_face.specs.Lawful.{AreValues, HasBytes}
 use Rattle.column_fill.proofs.ColumnBlocks.{blocks-are}
 use Rattle.column_fill.proofs.ColumnCosts.{few-blocks}

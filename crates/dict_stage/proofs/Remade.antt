@@ -15,7 +15,8 @@ use Rattle.tree_model.specs.Tree.{Depth, dictionary_at}
 use Rattle.unit_pass.specs.declared.pass.TheConstants.{CHUNK}
 use Rattle.raw_array.specs.promise.Members.{ArrayTree, Cost, members_of}
 use Rattle.col_build.specs.Encoding.{Fits}
-use Rattle.data_types.specs.promise.ColumnKinds.{table_type, type_of_column, type_of_columns, type_of_kind, types_of_columns}
+use Rattle.data_types.specs.promise.ColumnKinds.{type_of_columns, type_of_kind}
+use Rattle.data_types.specs.ColumnKinds.{table_type, type_of_column, types_of_columns}
 use Rattle.schema_check.specs.promise.ColumnSchema.{SchemaOf}
 use Rattle.data_types.specs.promise.KindTrees.{KindTree}
 use Rattle.schema_check.specs.promise.Schemas.{TypedOf}

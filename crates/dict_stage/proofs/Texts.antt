@@ -7,7 +7,8 @@ use Rattle.std.specs.Str.{bytes_eq}
 use Rattle.std.proofs.lemmas.Cmp.{nat_list_eq_equiv}
 use Rattle.std.proofs.lemmas.List.Folds.{list_any-append}
 use Rattle.data_types.specs.promise.Value.{Value, Null, Truth, Whole, Bits, Bytes, Items, Fields}
-use Rattle.stage_model.specs.promise.Dictionary.{Dictionary, distinct_behind, has_bytes}
+use Rattle.stage_model.specs.promise.Dictionary.{Dictionary, distinct_behind}
+use Rattle.stage_model.specs.Dictionary.{has_bytes}
 use Rattle.dict_stage.specs.Indices.{Indices, index_in, is_text}
 use Rattle.item_keys.specs.Distinct.{number_of, texts_with}
 use Rattle.dict_stage.specs.Texts.{index_by, texts_after}

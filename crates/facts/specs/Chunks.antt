@@ -11,7 +11,7 @@ use Rattle.raw_array.specs.declared.array.ReleaseKind.TheVariants.{Assembled, Ex
 use Rattle.data_types.specs.promise.KindTrees.{KindTree}
 use Rattle.layout_rules.specs.promise.Values.{rows_of}
 use Rattle.layout_rules.specs.promise.Walk.{first_chunk_fault}
-use Rattle.data_types.specs.promise.ColumnKinds.{table_type}
+use Rattle.data_types.specs.ColumnKinds.{table_type}
 
 abbrev pub bytes : List ℕ → Option Buffer
 bytes bs = Some (record { bytes = bs; amount = 7 })

@@ -5,7 +5,7 @@ use Rattle.data_types.specs.promise.Value.{Value, Fields, values}
 use Rattle.tree_model.specs.promise.TreeData.{Live, no_trees, absent}
 use Rattle.raw_array.specs.promise.Members.{ArrayTree}
 use Rattle.data_types.specs.promise.KindTrees.{KindTree}
-use Rattle.data_types.specs.promise.ColumnKinds.{table_type}
+use Rattle.data_types.specs.ColumnKinds.{table_type}
 use Rattle.facts.specs.Chunks.{bytes, chunk, n, shorts, struct, types}
 use Rattle.array_laws.specs.Picking.{Packed, packed_types}
 

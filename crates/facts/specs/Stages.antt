@@ -9,7 +9,7 @@ use Rattle.csv_model.specs.declared.fault.HeaderFault.{HeaderFault}
 use Rattle.data_types.specs.declared.kind.DataType.{DataType}
 use Rattle.data_types.specs.declared.kind.DataType.TheVariants as kinds
 use Rattle.data_types.specs.declared.row_fault.RowFault.{RowFault}
-use Rattle.data_types.specs.promise.Parts.{joined_rows}
+use Rattle.data_types.specs.Parts.{joined_rows}
 use Rattle.data_types.specs.promise.Table.{Column, Flat, Dict, Row}
 use Rattle.data_types.specs.promise.Value.{Null, Bytes, Whole as Number, bytes_of}
 use Rattle.stage_model.specs.promise.Links.{Link, Links, Whole}

@@ -8,7 +8,7 @@ use Rattle.layout_rules.specs.promise.Layout.{items}
 use Rattle.layout_rules.specs.promise.Values.{each}
 use Rattle.facts.specs.Arrays.{flat, int32, buffer, members, leaf}
 use Rattle.facts.specs.Standard.{words}
-use Rattle.data_types.specs.promise.ColumnKinds.{table_type}
+use Rattle.data_types.specs.ColumnKinds.{table_type}
 use Rattle.data_types.specs.promise.KindTrees.{KindTree}
 use Rattle.union_cols.specs.promise.Unions.{UnionItem, UnionTree, union_value}
 use Rattle.union_cols.specs.promise.UnionRules.{Rule, UnionFound}

@@ -7,7 +7,7 @@ ghost use Rattle.csv_model.specs.promise.Header.{first_twice, header_fault};
 ghost use Rattle.csv_model.specs.declared.fault.HeaderFault.TheVariants as faults;
 ghost use Rattle.csv_model.specs.promise.Made.{made, made_row};
 ghost use Rattle.csv_model.specs.promise.Reading.{records_of};
-ghost use Rattle.csv_model.specs.promise.Text.{header_text};
+ghost use Rattle.csv_model.specs.Text.{header_text};
 
 /// Texts on which the definitions are computed.
 pub fn csv_texts()

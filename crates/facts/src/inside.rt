@@ -7,7 +7,7 @@ ghost use Rattle.layout_rules.specs.promise.Values.{values_of, rows_of};
 ghost use Rattle.layout_rules.specs.promise.Walk.{first_fault};
 ghost use Rattle.facts.specs.Chunks.{HasRows, chunk, hello, hi, n, text_views, texts, three, types, shorts};
 ghost use Rattle.array_laws.specs.Pieces.{rows_of_pieces};
-ghost use Rattle.data_types.specs.promise.ColumnKinds.{table_type};
+ghost use Rattle.data_types.specs.ColumnKinds.{table_type};
 ghost use Rattle.data_types.specs.promise.Parts.{picked};
 ghost use Rattle.tree_model.specs.promise.TreeData.{Released, Live, absent, no_trees, more_trees};
 ghost use Rattle.arr_move.specs.TreeActs.{Columns};

@@ -1,7 +1,7 @@
 //! Chapter 13: rows with lists, spread out and grouped ("Arrow Columnar Format", "Variable-size List Layout").
 ghost use Rattle.std.specs.Prelude.{◌≡◌, pos, true, false, [], ◌∷◌, None, Some, codes};
 ghost use Rattle.data_types.specs.declared.kind.DataType.TheVariants as kinds;
-ghost use Rattle.data_types.specs.promise.ColumnKinds.{table_type};
+ghost use Rattle.data_types.specs.ColumnKinds.{table_type};
 ghost use Rattle.data_types.specs.promise.Value.{Null, Whole, Bytes, Items, values};
 ghost use Rattle.list_cols.specs.declared.fault.ListFault.TheVariants.{WrongKind};
 ghost use Rattle.list_cols.specs.promise.Faults.{explode_fault};

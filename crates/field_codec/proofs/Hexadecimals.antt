@@ -18,7 +18,8 @@ use Rattle.std.proofs.lemmas.Str.{digit_value_digit}
 use Rattle.std.proofs.Math.Bool.{and-false}
 use Rattle.std.proofs.Math.Seq.{take-add}
 use Rattle.std.proofs.Math.Nat.{pow-succ', pow-zero, pow-le-pow_right, div-div-eq-div-mul}
-use Rattle.data_types.specs.promise.FieldText.{hex_bytes, hex_text, last_digits, read_bits}
+use Rattle.data_types.specs.promise.FieldText.{hex_bytes, hex_text, last_digits}
+use Rattle.data_types.specs.FieldText.{read_bits}
 use Rattle.data_types.specs.promise.Value.{Bits}
 use borrow.Rule.Slice.PartMut.{put_mid}
 

@@ -3,7 +3,8 @@ ghost use Rattle.std.specs.Prelude.{◌≡◌, ◌∷◌, ◌++◌, [], ◌+◌,
 ghost use Rattle.std.specs.Bool.{OnFalse, OnTrue};
 ghost use Rattle.std.specs.Fmt.{digit_glyph};
 ghost use Rattle.std.specs.Char.{is_ascii_hexdigit, digit_value};
-ghost use Rattle.data_types.specs.promise.FieldText.{hex_bytes, hex_text, last_digits, read_bits};
+ghost use Rattle.data_types.specs.promise.FieldText.{hex_bytes, hex_text, last_digits};
+ghost use Rattle.data_types.specs.FieldText.{read_bits};
 ghost use Rattle.data_types.specs.promise.Value.{Bits};
 
 use crate::room::sized;

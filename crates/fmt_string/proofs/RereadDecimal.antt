@@ -12,7 +12,8 @@ use Rattle.fmt_string.specs.declared.fault.FormatFault.{FormatFault}
 use Rattle.fmt_string.specs.declared.fault.FormatFault.TheVariants.{At}
 use Rattle.data_types.specs.declared.kind.DataType.{DataType}
 use Rattle.data_types.specs.declared.kind.DataType.TheVariants as kinds
-use Rattle.fmt_string.specs.promise.FormatString.{IsDigit, IsNumber, IsSigned, IsWidth, NoNumber, NumberThen, StartsWith, StartsWithDigit, comma, Parts, parts_text}
+use Rattle.fmt_string.specs.promise.FormatString.{IsDigit, IsNumber, IsSigned, NoNumber, NumberThen, StartsWith, StartsWithDigit, comma, Parts, parts_text}
+use Rattle.fmt_string.specs.FormatString.{IsWidth}
 use Rattle.fmt_string.specs.promise.FormatString.{PartsAre, Ends, width_of, DecimalIs, NumberPlace, numbers_before, IsNumberPlace, Misses, KnownWidth}
 use Rattle.data_types.specs.promise.Kinds.{most_precise}
 use Rattle.fmt_string.specs.promise.FormatString.{most_at, WidthFails, RangeFails, NumbersFail}

@@ -11,10 +11,12 @@ use Rattle.data_types.specs.declared.kind.Tick.{Tick}
 use Rattle.data_types.specs.declared.kind.Tick.TheVariants.{Second, Milli, Micro, Nano}
 use Rattle.fmt_string.specs.promise.Keywords.{keywords}
 use Rattle.fmt_string.specs.promise.Keywords.Behind.{Alone, Zone, BinarySize, ListSize, Numbers}
-use Rattle.fmt_string.specs.promise.FormatString.{IsNumber, IsSigned, IsWidth, comma, width_of, DecimalIs, FormatIs}
+use Rattle.fmt_string.specs.promise.FormatString.{IsNumber, IsSigned, comma, width_of, DecimalIs, FormatIs}
+use Rattle.fmt_string.specs.FormatString.{IsWidth}
 use Rattle.data_types.specs.promise.Kinds.{most_precise}
 use Rattle.data_types.specs.Kinds.{KindOk}
-use Rattle.fmt_string.specs.promise.Spelling.{int_word, float_word, width_text, spelling_of}
+use Rattle.fmt_string.specs.promise.Spelling.{int_word, width_text, spelling_of}
+use Rattle.fmt_string.specs.Spelling.{float_word}
 
 -- ---- numbers
 

@@ -1,5 +1,7 @@
 pub mod promise
-pub mod Decimal
-pub mod Meaning
 pub mod Answer
+pub mod Decimal
 pub mod FaultTexts
+pub mod FormatString
+pub mod Meaning
+pub mod Spelling

@@ -2,7 +2,8 @@
 ghost use Rattle.std.specs.Prelude.{◌≡◌, ◌+◌, ◌<◌, ◌≤◌, ◌^◌, ◌++◌, ◌∷◌, min, neg_ℤ, pos, length, take, drop, FitsSigned, IfOk, IfErr, IfSome, IfNone};
 ghost use Rattle.std.specs.Int.{w32};
 ghost use Rattle.std.specs.Str.Parse.{digits_value};
-ghost use Rattle.fmt_string.specs.promise.FormatString.{IsNumber, StartsWith, IsSigned, NoSigned, StartsWithDigit, comma, IsWidth, width_of, DecimalIs};
+ghost use Rattle.fmt_string.specs.promise.FormatString.{IsNumber, StartsWith, IsSigned, NoSigned, StartsWithDigit, comma, width_of, DecimalIs};
+ghost use Rattle.fmt_string.specs.FormatString.{IsWidth};
 ghost use Rattle.data_types.specs.promise.Kinds.{most_precise};
 ghost use Rattle.fmt_string.specs.promise.FormatString.{NumbersFail};
 ghost use Rattle.fmt_string.specs.Decimal.{signed_value, width_value, AreParts};

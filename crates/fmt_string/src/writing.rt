@@ -3,7 +3,8 @@ ghost use Rattle.std.specs.Prelude.{◌≡◌, ◌++◌, decimal, codes, IfOk};
 ghost use Rattle.std.specs.Fmt.{signed_decimal};
 ghost use Rattle.fmt_string.specs.promise.FormatString.{comma, FormatIs};
 ghost use Rattle.data_types.specs.Kinds.{KindOk};
-ghost use Rattle.fmt_string.specs.promise.Spelling.{int_word, float_word, time_word, timestamp_word, duration_word, word_of, width_text, rest_of, spelling_of};
+ghost use Rattle.fmt_string.specs.promise.Spelling.{int_word, time_word, timestamp_word, duration_word, word_of, width_text, rest_of, spelling_of};
+ghost use Rattle.fmt_string.specs.Spelling.{float_word};
 
 use data_types::{DataType, Tick};
 use itoa::Buffer;

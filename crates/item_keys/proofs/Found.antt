@@ -13,7 +13,7 @@ use Rattle.std.specs.Ordering.{is_eq, nat_cmp, ordering_then}
 use Rattle.std.specs.Str.{bytes_eq}
 use Rattle.std.specs.declared.cmp.Ordering.{Ordering}
 use Rattle.std.specs.declared.cmp.Ordering.TheVariants.{Less, Equal, Greater}
-use Rattle.stage_model.specs.promise.Dictionary.{has_bytes}
+use Rattle.stage_model.specs.Dictionary.{has_bytes}
 use Rattle.item_keys.specs.Distinct.{AreTaken, Numbers, NumbersFew, Tree, found, key_cmp, most_steps, number_of, slot}
 use Rattle.item_keys.specs.Search.{IsFull}
 use Rattle.item_keys.specs.Slots.{hash_in, second_hash_in, slot_in}

@@ -6,7 +6,7 @@ use Rattle.std.proofs.lemmas.List.{get_or-set_same, get_or-set_other, length-app
 use Rattle.std.proofs.lemmas.Option.{none-some, same_Some}
 use Rattle.std.specs.Prelude.{◌⊎◌, if◌then◌else◌, set}
 use Rattle.std.specs.Str.{bytes_eq}
-use Rattle.stage_model.specs.promise.Dictionary.{has_bytes}
+use Rattle.stage_model.specs.Dictionary.{has_bytes}
 use Rattle.item_keys.specs.Distinct.{AreTaken, IsBeside, IsPlaced, Numbers, found, most_steps, slot}
 use Rattle.item_keys.specs.Search.{IsFree, IsFull}
 use Rattle.item_keys.specs.Slots.{hash_in, slot_in}

@@ -6,7 +6,7 @@ use Rattle.std.specs.List.{position_or_len}
 use Rattle.std.specs.Ordering.{nat_cmp, ordering_then}
 use Rattle.std.specs.declared.cmp.Ordering.{Ordering}
 use Rattle.std.specs.Str.{bytes_eq}
-use Rattle.stage_model.specs.promise.Dictionary.{has_bytes}
+use Rattle.stage_model.specs.Dictionary.{has_bytes}
 use Rattle.item_keys.specs.Slots.{hash_in, second_hash_in, slot_in}
 use Rattle.item_keys.specs.declared.distinct.Distinct.{Distinct}
 use denote.Ref.{Bor}

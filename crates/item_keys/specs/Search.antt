@@ -1,7 +1,7 @@
 -- What the slots of a text say of it.
 use Rattle.std.specs.Prelude.{◌≡◌, ◌<◌, ℕ, false, true, List, [], length, get_or}
 use Rattle.std.specs.Str.{bytes_eq}
-use Rattle.stage_model.specs.promise.Dictionary.{has_bytes}
+use Rattle.stage_model.specs.Dictionary.{has_bytes}
 use Rattle.item_keys.specs.Distinct.{AreTaken, IsPlaced, most_steps}
 use Rattle.item_keys.specs.Slots.{hash_in, slot_in}
 use Rattle.item_keys.specs.declared.distinct.Distinct.{Distinct}

@@ -1,6 +1,6 @@
 //! Distinct texts.
 ghost use Rattle.std.specs.Prelude.{◌≡◌, ℕ, not, List, [], length, get_or, None, IfOk, OnOk};
-ghost use Rattle.stage_model.specs.promise.Dictionary.{has_bytes};
+ghost use Rattle.stage_model.specs.Dictionary.{has_bytes};
 ghost use Rattle.item_keys.specs.Distinct.{Numbers, NumbersFew, found, number_of, texts_with};
 ghost use Rattle.item_keys.specs.Slots.{second_hash_in};
 ghost use Rattle.item_keys.specs.Search.{IsFree, IsFull, IsSearched};

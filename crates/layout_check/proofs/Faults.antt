@@ -9,7 +9,8 @@ use Rattle.data_types.specs.TypedView.{kids_of, kind_of, dict_in}
 use Rattle.layout_rules.proofs.Walks.{fault_from-live, first_some-append}
 use Rattle.layout_check.specs.NodeView.{live_node}
 use Rattle.layout_rules.specs.promise.Layout.{layout_of, buffer_count}
-use Rattle.layout_rules.specs.promise.Rules.{form_rules, buffer_rules, item_rules, in_order, one_if, count_wrong, fault_if, is_negative}
+use Rattle.layout_rules.specs.promise.Rules.{in_order, one_if, count_wrong, fault_if, is_negative}
+use Rattle.layout_rules.specs.Rules.{form_rules, buffer_rules, item_rules}
 use Rattle.data_types.proofs.Levels.{typed_out, levels-typed, kind-ok, kids-ok, dict-ok, get_or-typed}
 use Rattle.std.specs.Global.{Box}
 use Rattle.std.specs.Option.{option_or}
@@ -19,10 +20,9 @@ use Rattle.tree_model.specs.promise.TreeParts.{IsLive, children_of, dictionary_o
 use Rattle.raw_array.specs.promise.Members.{ArrayTree, members_of}
 use Rattle.data_types.specs.promise.KindTrees.{KindTree}
 use Rattle.data_types.specs.promise.Ways.{Steps}
-use Rattle.layout_rules.specs.promise.Walk.{fault_by, Fault, visits, walks_of, walk_of, walk_children, walk_dictionary, walk_below, first_some}
-use Rattle.layout_rules.specs.Walk.{rules_fault}
-use Rattle.layout_rules.specs.promise.Walk.{visit_fault, fault_from, fault_at}
-use Rattle.layout_rules.specs.Walk.{own_fault, children_fault, dictionary_fault}
+use Rattle.layout_rules.specs.promise.Walk.{Fault, visits, walks_of, walk_of, walk_children, walk_dictionary, walk_below, first_some}
+use Rattle.layout_rules.specs.Walk.{fault_by, rules_fault, fault_from, own_fault, children_fault, dictionary_fault}
+use Rattle.layout_rules.specs.promise.Walk.{visit_fault, fault_at}
 
 -- a fault of the node itself is the first
 pub fault_from-own : (kind : DataType) (kids : List KindTree) (dict : Option KindTree) (path : Steps) (array : ArrayTree) (fault : Fault)

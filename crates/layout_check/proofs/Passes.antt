@@ -13,10 +13,11 @@ use Rattle.layout_rules.specs.declared.rule.Numbers.{Numbers}
 use Rattle.data_types.specs.promise.TypedView.{typed_of}
 use Rattle.data_types.specs.TypedView.{kids_of, dict_in}
 use Rattle.layout_check.specs.NodeView.{live_node}
-use Rattle.layout_rules.specs.promise.Rules.{Node, fails, first_below, form_rules, buffer_rules, item_rules}
+use Rattle.layout_rules.specs.promise.Rules.{Node, fails, first_below}
+use Rattle.layout_rules.specs.Rules.{form_rules, buffer_rules, item_rules}
 use Rattle.data_types.specs.promise.Ways.{Steps}
-use Rattle.layout_rules.specs.promise.Walk.{fault_by, fault_at, fault_from}
-use Rattle.layout_rules.specs.Walk.{rules_fault, own_fault, children_fault, dictionary_fault}
+use Rattle.layout_rules.specs.promise.Walk.{fault_at}
+use Rattle.layout_rules.specs.Walk.{fault_by, fault_from, rules_fault, own_fault, children_fault, dictionary_fault}
 use Rattle.layout_check.proofs.Faults.{fault_from-typed, fault_from-typed_own, own_fault-typed, children_fault-step}
 
 pub none-or : {X : Type 0} → (a b : Option X) → is_none (option_or a b) ≡ (is_none a && is_none b)

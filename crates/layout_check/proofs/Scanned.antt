@@ -9,7 +9,8 @@ use Rattle.std.proofs.lemmas.Str.{IsAscii-take, IsAscii-drop, IsUtf8-from_ascii,
 use Rattle.raw_array.specs.promise.Members.{ArrayMembers}
 use Rattle.layout_rules.specs.declared.rule.Numbers.{Numbers}
 use Rattle.layout_rules.specs.promise.Layout.{items, first, end, natural, offset, offset_in, bytes, data_of, is_valid, stored_number}
-use Rattle.layout_rules.specs.promise.Rules.{fault_if, first_below, offsets_fall, not_text, index_wrong, is_outside}
+use Rattle.layout_rules.specs.promise.Rules.{fault_if, first_below, offsets_fall, index_wrong, is_outside}
+use Rattle.layout_rules.specs.Rules.{not_text}
 use Rattle.layout_check.specs.Scans.{used_data, outside_in, AreBorders}
 use Rattle.layout_rules.proofs.Firsts.{first_below-none, first_below-none_at}
 use Rattle.layout_rules.proofs.TextData.{offsets-from, offsets-rise, natural-rise, offsets-next, offsets-last, offsets-start}

@@ -8,8 +8,10 @@ use Rattle.std.proofs.lemmas.List.{drop-take, take-take}
 use Rattle.std.proofs.lemmas.Str.{IsUtf8-between, is_utf8-from_IsUtf8}
 use Rattle.raw_array.specs.promise.Members.{ArrayMembers}
 use Rattle.layout_rules.specs.promise.Layout.{natural, bytes, is_valid, data_buffers, data_length, data_place}
-use Rattle.layout_rules.specs.promise.Views.{view_length, view_buffer, view_offset, view_data, data_named, data_in_view, is_long}
-use Rattle.layout_rules.specs.promise.Rules.{fault_if, view_not_text}
+use Rattle.layout_rules.specs.promise.Views.{view_length, view_buffer, view_offset, view_data, data_named, is_long}
+use Rattle.layout_rules.specs.Views.{data_in_view}
+use Rattle.layout_rules.specs.promise.Rules.{fault_if}
+use Rattle.layout_rules.specs.Rules.{view_not_text}
 use Rattle.layout_rules.specs.Within.{NamedWithin}
 use Rattle.layout_check.specs.Scans.{sized_data, AreTexts}
 

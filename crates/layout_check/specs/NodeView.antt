@@ -4,7 +4,8 @@ use Rattle.tree_model.specs.promise.TreeParts.{children_of, dictionary_of}
 use Rattle.raw_array.specs.promise.Members.{ArrayMembers, ArrayTree, members_of}
 use Rattle.layout_rules.specs.promise.Layout.{buffer_count}
 use Rattle.layout_rules.specs.declared.layout.Layout.{Layout}
-use Rattle.layout_rules.specs.promise.Rules.{Node, buffer_absent, buffer_short, first_below}
+use Rattle.layout_rules.specs.promise.Rules.{Node, buffer_absent, first_below}
+use Rattle.layout_rules.specs.Rules.{buffer_short}
 use Rattle.layout_check.specs.declared.node.WellFormedNode.{WellFormedNode}
 use Rattle.data_types.specs.declared.typed.Typed.{Typed, out-Typed}
 use Rattle.data_types.specs.TypedView.{kind_of, kids_of, dict_in}

@@ -5,9 +5,11 @@ ghost use Rattle.data_types.specs.promise.Packed.{offset_width};
 ghost use Rattle.tree_model.specs.promise.TreeParts.{IsLive};
 ghost use Rattle.raw_array.specs.promise.Members.{ArrayTree, members_of};
 ghost use Rattle.layout_check.specs.NodeView.{AreReadable, own_of};
-ghost use Rattle.layout_rules.specs.promise.Layout.{natural, items, offset, end, bytes, offsets_need, data_need, named_need, need, buffer_count};
-ghost use Rattle.layout_rules.specs.promise.Rules.{missing, too_short, offsets_fall_if, is_behind_offsets, buffer_absent, fault_if, offset_falls, offsets_fall};
-ghost use Rattle.layout_rules.specs.promise.Rules.{buffer_short, first_below};
+ghost use Rattle.layout_rules.specs.promise.Layout.{natural, items, offset, end, bytes, offsets_need, data_need, need, buffer_count};
+ghost use Rattle.layout_rules.specs.Layout.{named_need};
+ghost use Rattle.layout_rules.specs.promise.Rules.{missing, too_short, offsets_fall_if, is_behind_offsets, buffer_absent, fault_if, offsets_fall};
+ghost use Rattle.layout_rules.specs.Rules.{offset_falls, buffer_short};
+ghost use Rattle.layout_rules.specs.promise.Rules.{first_below};
 
 use crate::node::WellFormedNode;
 use crate::scans::offsets_rise;

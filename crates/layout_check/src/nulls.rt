@@ -5,7 +5,8 @@ ghost use Rattle.data_types.specs.promise.Packed.{bit};
 ghost use Rattle.layout_check.specs.NodeView.{own_of};
 ghost use Rattle.layout_rules.specs.promise.Layout.{items, is_valid, buffer_count};
 ghost use Rattle.layout_rules.specs.Layout.{IsLongIfPresent};
-ghost use Rattle.layout_rules.specs.promise.Rules.{fault_if, null_total, null_count_wrong, null_count_wrong_in, first_below, buffer_short};
+ghost use Rattle.layout_rules.specs.promise.Rules.{fault_if, null_total, null_count_wrong, null_count_wrong_in, first_below};
+ghost use Rattle.layout_rules.specs.Rules.{buffer_short};
 
 use crate::node::WellFormedNode;
 use bit_pack::{bit_at, count_clear};

@@ -8,7 +8,8 @@ ghost use Rattle.layout_rules.specs.promise.Layout.{natural, data_between, layou
 ghost use Rattle.layout_rules.specs.Layout.{IsLongIfPresent};
 ghost use Rattle.layout_rules.specs.promise.Layout.{data_need};
 ghost use Rattle.layout_check.specs.Scans.{used_data};
-ghost use Rattle.layout_rules.specs.promise.Rules.{fault_if, first_below, offsets_fall, offsets_fall_if, is_behind_offsets, not_text};
+ghost use Rattle.layout_rules.specs.promise.Rules.{fault_if, first_below, offsets_fall, offsets_fall_if, is_behind_offsets};
+ghost use Rattle.layout_rules.specs.Rules.{not_text};
 ghost use Rattle.layout_rules.specs.promise.Rules.{texts_wrong, views_misplaced};
 
 use crate::buffers::offset_of;

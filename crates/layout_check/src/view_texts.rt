@@ -4,7 +4,8 @@ ghost use Rattle.std.specs.Prelude.{◌≡◌, None, is_none, IsTrue, ◌*◌, �
 ghost use Rattle.layout_check.specs.NodeView.{own_of};
 ghost use Rattle.layout_rules.specs.promise.Layout.{items, end, bytes as bytes_at, is_valid, view_width, data_buffers, data_lengths, lengths_need};
 ghost use Rattle.layout_rules.specs.Layout.{IsLongIfPresent};
-ghost use Rattle.layout_rules.specs.promise.Rules.{first_below, misplaced, view_not_text};
+ghost use Rattle.layout_rules.specs.promise.Rules.{first_below};
+ghost use Rattle.layout_rules.specs.Rules.{misplaced, view_not_text};
 ghost use Rattle.layout_rules.specs.Within.{DataWithin, AreThere};
 ghost use Rattle.layout_check.specs.Scans.{AreTexts, AreMarks};
 

@@ -6,8 +6,10 @@ ghost use Rattle.layout_check.specs.Scans.{sized_data};
 ghost use Rattle.layout_rules.specs.promise.Layout.{layout_of, items, end, bytes, is_valid, view_width, data_buffers, data_lengths};
 ghost use Rattle.layout_rules.specs.Layout.{IsLongIfPresent};
 ghost use Rattle.layout_rules.specs.promise.Layout.{lengths_need, data_length};
-ghost use Rattle.layout_rules.specs.promise.Views.{view_number, view_length, view_prefix, view_buffer, view_offset, view_data, is_long};
-ghost use Rattle.layout_rules.specs.promise.Rules.{fault, fault_if, is_outside, first_below, named_outside, view_outside, misplaced, prefix_wrong, views_misplaced};
+ghost use Rattle.layout_rules.specs.promise.Views.{view_number, view_length, view_buffer, view_offset, view_data, is_long};
+ghost use Rattle.layout_rules.specs.Views.{view_prefix};
+ghost use Rattle.layout_rules.specs.promise.Rules.{fault, fault_if, is_outside, first_below, named_outside, view_outside, prefix_wrong, views_misplaced};
+ghost use Rattle.layout_rules.specs.Rules.{misplaced};
 ghost use Rattle.layout_rules.specs.promise.Rules.{prefixes_wrong};
 ghost use Rattle.layout_rules.specs.Within.{DataWithin, AreThere};
 

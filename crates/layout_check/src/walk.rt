@@ -12,15 +12,15 @@ ghost use Rattle.layout_rules.specs.promise.Rules.{one_if, indices_wrong, length
 ghost use Rattle.data_types.specs.declared.typed.Typed.{out-Typed};
 ghost use Rattle.data_types.specs.promise.TypedView.{typed_of};
 ghost use Rattle.data_types.specs.TypedView.{kids_of, dict_in};
-ghost use Rattle.layout_check.specs.NodeView.{live_node};
+ghost use Rattle.layout_check.specs.NodeView.{live_node, AreReadable, own_of};
 ghost use Rattle.layout_rules.specs.promise.Layout.{layout_of, buffer_count};
-ghost use Rattle.layout_rules.specs.promise.Rules.{buffer_rules, form_rules, item_rules, offsets_fall_if, is_behind_offsets};
-ghost use Rattle.layout_check.specs.NodeView.{AreReadable, own_of};
+ghost use Rattle.layout_rules.specs.promise.Rules.{offsets_fall_if, is_behind_offsets};
+ghost use Rattle.layout_rules.specs.Rules.{buffer_rules, form_rules, item_rules};
 ghost use Rattle.data_types.specs.promise.Ways.{steps_of, Steps};
 ghost use Rattle.layout_rules.specs.Found.{found};
 ghost use Rattle.layout_check.specs.FoundAt.{found_at};
-ghost use Rattle.layout_rules.specs.promise.Walk.{LayoutOk, first_fault, fault_from};
-ghost use Rattle.layout_rules.specs.Walk.{rules_fault, own_fault, children_fault, dictionary_fault};
+ghost use Rattle.layout_rules.specs.promise.Walk.{LayoutOk, first_fault};
+ghost use Rattle.layout_rules.specs.Walk.{fault_from, rules_fault, own_fault, children_fault, dictionary_fault};
 
 use crate::buffers::{buffers_absent, buffers_pass, buffers_short, layout_falls, layout_passes};
 use crate::children::children_short;

@@ -4,10 +4,11 @@ use Rattle.std.specs.Prelude.{is_some, nat_lt, max, if◌then◌else◌}
 use Rattle.raw_array.specs.promise.Members.{ArrayMembers}
 use Rattle.layout_rules.specs.declared.layout.Layout.{Layout}
 use Rattle.layout_rules.specs.declared.layout.Layout.TheVariants.{ByOffsets, ListOffsets, FixedWidth, TruthBits, Views}
-use Rattle.layout_rules.specs.promise.Layout.{bytes_or_none, buffer, buffer_count, bytes, bits_need, offsets_need, data_need, end, need}
-use Rattle.layout_rules.specs.Layout.{IsLong, IsLongIfPresent}
+use Rattle.layout_rules.specs.promise.Layout.{bytes_or_none, buffer, buffer_count, bytes, offsets_need, data_need, end, need}
+use Rattle.layout_rules.specs.Layout.{bits_need, IsLong, IsLongIfPresent}
 use Rattle.layout_rules.specs.promise.Layout.{view_width, data_buffers, data_place, data_length, data_lengths, lengths_need}
-use Rattle.layout_rules.specs.promise.Rules.{fault_if, first_below, buffer_absent, buffer_short}
+use Rattle.layout_rules.specs.promise.Rules.{fault_if, first_below, buffer_absent}
+use Rattle.layout_rules.specs.Rules.{buffer_short}
 use Rattle.layout_rules.specs.Within.{AreThere}
 use Rattle.layout_rules.proofs.Firsts.{first_below-none_at}
 

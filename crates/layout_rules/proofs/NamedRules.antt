@@ -5,8 +5,8 @@ use Rattle.layout_rules.specs.declared.rule.LayoutRule.{LayoutRule}
 use Rattle.layout_rules.specs.declared.rule.LayoutRule.TheVariants as rules
 use Rattle.layout_rules.specs.declared.rule.Numbers.{Numbers}
 use Rattle.layout_rules.specs.promise.Rules.{Node, fails, in_order}
-use Rattle.layout_rules.specs.promise.Walk.{fault_at, fault_by}
-use Rattle.layout_rules.specs.Walk.{rules_fault}
+use Rattle.layout_rules.specs.promise.Walk.{fault_at}
+use Rattle.layout_rules.specs.Walk.{fault_by, rules_fault}
 use Rattle.layout_rules.proofs.Lawful.{left-none, right-none}
 use Rattle.data_types.specs.promise.Ways.{Steps}
 

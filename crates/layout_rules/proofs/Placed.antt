@@ -5,7 +5,8 @@ use Rattle.raw_array.specs.promise.Members.{ArrayMembers}
 use Rattle.layout_rules.specs.declared.rule.Numbers.{Numbers}
 use Rattle.layout_rules.specs.promise.Layout.{natural, items, is_valid, data_buffers, data_length}
 use Rattle.layout_rules.specs.promise.Views.{view_length, view_buffer, view_offset, is_long}
-use Rattle.layout_rules.specs.promise.Rules.{fault, fault_if, is_negative, is_outside, first_below, named_outside, view_outside, misplaced}
+use Rattle.layout_rules.specs.promise.Rules.{fault, fault_if, is_negative, is_outside, first_below, named_outside, view_outside}
+use Rattle.layout_rules.specs.Rules.{misplaced}
 use Rattle.layout_rules.specs.Within.{NamedWithin, DataWithin, AreThere}
 use Rattle.layout_rules.proofs.Firsts.{first_below-none_at}
 use Rattle.layout_rules.proofs.Named.{named-from, named-below}

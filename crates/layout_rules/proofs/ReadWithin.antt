@@ -21,11 +21,12 @@ use Rattle.data_types.specs.promise.KindTrees.{KindTree}
 use Rattle.data_types.specs.promise.TypedView.{typed_of}
 use Rattle.data_types.specs.TypedView.{dict_in}
 use Rattle.layout_rules.specs.promise.Layout.{layout_of, buffer_count, items, first, end, natural, bytes, offset, offsets_need, is_valid, stored_number, view_width}
-use Rattle.layout_rules.specs.promise.Rules.{Node, fails, fault_if, in_order, first_below, buffer_absent, buffer_short, offsets_fall_if, is_behind_offsets, is_outside}
+use Rattle.layout_rules.specs.promise.Rules.{Node, fails, fault_if, in_order, first_below, buffer_absent, offsets_fall_if, is_behind_offsets, is_outside}
+use Rattle.layout_rules.specs.Rules.{buffer_short}
 use Rattle.layout_rules.specs.promise.Rules.{items_need, short_child, child_short, live_length, length_if, index_wrong, indices_wrong, views_misplaced}
 use Rattle.data_types.specs.promise.Ways.{Steps, dictionary_step}
-use Rattle.layout_rules.specs.promise.Walk.{LayoutOk, first_fault, fault_from, first_some, fault_by}
-use Rattle.layout_rules.specs.Walk.{own_fault, children_fault, dictionary_fault, rules_fault}
+use Rattle.layout_rules.specs.promise.Walk.{LayoutOk, first_fault, first_some}
+use Rattle.layout_rules.specs.Walk.{fault_from, fault_by, own_fault, children_fault, dictionary_fault, rules_fault}
 use Rattle.layout_rules.specs.promise.Walk.{fault_at, node_fault, node_of, visit_fault, visits, walks_of, walk_of, walk_children, walk_dictionary}
 use Rattle.layout_rules.specs.promise.Values.{tree_items}
 use Rattle.layout_rules.specs.Within.{StoredWithin, ItemsWithin, IndexWithin, ViewWithin}

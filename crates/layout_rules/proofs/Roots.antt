@@ -14,12 +14,13 @@ use Rattle.data_types.specs.promise.TypedView.{typed_of}
 use Rattle.data_types.specs.TypedView.{kids_of, kind_of, dict_in}
 use Rattle.layout_rules.specs.promise.Layout.{layout_of, buffer_count, items, end}
 use Rattle.layout_rules.specs.Layout.{IsLongIfPresent}
-use Rattle.layout_rules.specs.promise.Rules.{Node, fault_if, count_wrong, is_negative, in_order, one_if, window_limit, first_below, buffer_absent, buffer_short}
+use Rattle.layout_rules.specs.promise.Rules.{Node, fault_if, count_wrong, is_negative, in_order, one_if, window_limit, first_below, buffer_absent}
+use Rattle.layout_rules.specs.Rules.{buffer_short}
 use Rattle.layout_rules.specs.promise.Rules.{offsets_fall_if, is_behind_offsets, items_need, child_short, length_if, indices_wrong, views_misplaced}
 use Rattle.layout_rules.specs.promise.Values.{tree_items}
 use Rattle.data_types.specs.promise.Ways.{Steps}
-use Rattle.layout_rules.specs.promise.Walk.{LayoutOk, fault_from, first_some, visit_fault, walk_below, walks_of}
-use Rattle.layout_rules.specs.Walk.{own_fault, rules_fault}
+use Rattle.layout_rules.specs.promise.Walk.{LayoutOk, first_some, visit_fault, walk_below, walks_of}
+use Rattle.layout_rules.specs.Walk.{fault_from, own_fault, rules_fault}
 use Rattle.layout_rules.specs.promise.Walk.{walk_of}
 use Rattle.data_types.proofs.Levels.{typed_out}
 use Rattle.layout_rules.proofs.Long.{long-validity}

@@ -8,7 +8,8 @@ use Rattle.std.proofs.lemmas.Str.{IsUtf8-from_is_utf8, is_utf8-from_IsUtf8}
 use Rattle.raw_array.specs.promise.Members.{ArrayMembers}
 use Rattle.layout_rules.specs.declared.rule.Numbers.{Numbers}
 use Rattle.layout_rules.specs.promise.Layout.{items, first, end, natural, offset, bytes, offsets_need, data_need}
-use Rattle.layout_rules.specs.promise.Rules.{fault_if, fault, is_negative, first_below, offset_falls, offsets_fall}
+use Rattle.layout_rules.specs.promise.Rules.{fault_if, fault, is_negative, first_below, offsets_fall}
+use Rattle.layout_rules.specs.Rules.{offset_falls}
 use Rattle.layout_rules.proofs.Firsts.{first_below-none_at}
 
 -- ---- the test

@@ -8,8 +8,8 @@ use Rattle.raw_array.specs.promise.Members.{ArrayTree}
 use Rattle.data_types.specs.promise.KindTrees.{KindTree}
 use Rattle.data_types.specs.promise.Ways.{Steps}
 use Rattle.layout_rules.specs.promise.Walk.{visits, walks_of, walk_of, walk_children, walk_dictionary, first_some}
-use Rattle.layout_rules.specs.promise.Walk.{visit_fault, fault_from}
-use Rattle.layout_rules.specs.Walk.{own_fault, children_fault, dictionary_fault}
+use Rattle.layout_rules.specs.promise.Walk.{visit_fault}
+use Rattle.layout_rules.specs.Walk.{fault_from, own_fault, children_fault, dictionary_fault}
 
 option_or-assoc : {X : Type 0} → (a b c : Option X) → option_or (option_or a b) c ≡ option_or a (option_or b c)
 option_or-assoc None b c = refl

@@ -1,6 +1,9 @@
 pub mod promise
-pub mod Layout
-pub mod Walk
 pub mod Found
 pub mod Within
 pub mod Lawful
+pub mod Layout
+pub mod Rules
+pub mod Values
+pub mod Views
+pub mod Walk

@@ -6,9 +6,9 @@ use Rattle.raw_array.specs.promise.Members.{ArrayTree}
 use Rattle.layout_rules.specs.declared.rule.LayoutRule.{LayoutRule}
 use Rattle.data_types.specs.promise.KindTrees.{KindTree}
 use Rattle.data_types.specs.promise.Ways.{Steps, dictionary_step}
-use Rattle.layout_rules.specs.promise.Layout.{items, layout_of}
-use Rattle.layout_rules.specs.promise.Rules.{Node, null_items}
-use Rattle.layout_rules.specs.promise.Walk.{Fault, fault_by, fault_from, first_some, node_fault, node_of}
+use Rattle.layout_rules.specs.promise.Layout.{layout_of}
+use Rattle.layout_rules.specs.promise.Rules.{Node, null_items, fails}
+use Rattle.layout_rules.specs.promise.Walk.{Fault, first_some, node_fault, node_of, fault_at, visit_fault, visits}
 
 -- ---- the first fault of a node's own parts
 
@@ -35,3 +35,10 @@ rules_fault some path node = first_some (fault_by path node) some
 abbrev pub nulls_in : KindTree → ArrayTree → ℕ
 nulls_in (Live kind kids dict) (Live own children dictionary) = null_items (layout_of kind) own
 nulls_in _ _ = 0
+
+abbrev pub fault_by : Steps → Node → LayoutRule → Option Fault
+fault_by path node rule = fault_at path rule (fails rule node)
+
+-- the first fault of a walk that begins at these steps
+abbrev pub fault_from : KindTree → Steps → ArrayTree → Option Fault
+fault_from typed path array = first_some visit_fault (visits typed path array)

@@ -8,7 +8,7 @@ use Rattle.data_types.specs.promise.Parts.{column_values}
 use Rattle.data_types.specs.promise.Table.{Row}
 use Rattle.data_types.specs.promise.Value.{Value, Null}
 use Rattle.col_build.specs.Encoding.{Fits}
-use Rattle.data_types.specs.promise.ColumnKinds.{table_type}
+use Rattle.data_types.specs.ColumnKinds.{table_type}
 use Rattle.data_types.specs.promise.KindTrees.{KindTree}
 use Rattle.layout_rules.specs.promise.Values.{rows_of}
 use Rattle.layout_rules.specs.promise.Walk.{ChunkOk}

@@ -12,7 +12,8 @@ use Rattle.tree_model.specs.promise.TreeData.{absent, trees}
 use Rattle.raw_array.specs.promise.Members.{ArrayMembers, ArrayTree}
 use Rattle.data_types.specs.promise.Ways.{Steps}
 use Rattle.layout_rules.specs.promise.Layout.{end, natural, offset_in, offsets_need}
-use Rattle.layout_rules.specs.promise.Rules.{Node, fault, fault_if, first_below, in_order, is_negative, null_total, offset_falls, offsets_fall, short_child}
+use Rattle.layout_rules.specs.promise.Rules.{Node, fault, fault_if, first_below, in_order, is_negative, null_total, offsets_fall, short_child}
+use Rattle.layout_rules.specs.Rules.{offset_falls}
 use Rattle.layout_rules.specs.promise.Values.{each, tree_items, value_at, values_of}
 use Rattle.layout_rules.specs.promise.Walk.{LayoutOk, node_fault, node_of, first_some, visit_fault, visits, walk_children, walks_of}
 use Rattle.layout_rules.specs.declared.rule.Numbers.{Numbers}

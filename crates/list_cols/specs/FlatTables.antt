@@ -3,7 +3,7 @@ use Rattle.std.specs.Prelude.{List, length, map, None}
 use Rattle.data_types.specs.declared.kind.DataType.{DataType}
 use Rattle.data_types.specs.promise.Table.{Row}
 use Rattle.raw_array.specs.promise.Members.{ArrayTree}
-use Rattle.data_types.specs.promise.ColumnKinds.{table_type}
+use Rattle.data_types.specs.ColumnKinds.{table_type}
 use Rattle.data_types.specs.promise.KindTrees.{KindTree}
 use Rattle.arr_export.specs.promise.ArrayTrees.{table_tree}
 use Rattle.arr_export.specs.ArrayTrees.{flat_type}

@@ -4,7 +4,7 @@ use Rattle.data_types.specs.declared.kind.DataType.{DataType}
 use Rattle.data_types.specs.promise.Table.{Row}
 use Rattle.tree_model.specs.promise.TreeParts.{children_of}
 use Rattle.col_build.specs.Encoding.{Fits}
-use Rattle.data_types.specs.promise.ColumnKinds.{table_type}
+use Rattle.data_types.specs.ColumnKinds.{table_type}
 use Rattle.data_types.specs.promise.KindTrees.{KindTree, kind_in}
 use Rattle.layout_rules.specs.promise.Values.{each}
 use Rattle.arr_export.specs.ArrayTrees.{flat_type}

@@ -2,7 +2,7 @@
 use Rattle.std.proofs.Common.{◌≡◌, ◌∙◌, ◌⊎◌, ℕ, List, [], None, Some, Result, Ok, Err, IsTrue, true, false, ap, refl, subst, sym}
 use Rattle.csv_model.specs.promise.Reading.{Record}
 use Rattle.csv_model.specs.promise.Text.{table_text}
-use Rattle.data_types.specs.promise.Parts.{joined_rows}
+use Rattle.data_types.specs.Parts.{joined_rows}
 use Rattle.stages.specs.Structs.{column_structs}
 use Rattle.run_model.specs.promise.Answer.{Fault, Request, Text}
 use Rattle.run_model.specs.declared.fault.RunFault.{RunFault}

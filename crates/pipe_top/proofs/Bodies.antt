@@ -8,7 +8,7 @@ use Rattle.csv_model.specs.declared.fault.HeaderFault.{HeaderFault}
 use Rattle.csv_model.specs.declared.fault.HeaderFault.TheVariants as header
 use Rattle.stage_plan.specs.promise.Entries.{entries_of}
 use Rattle.csv_source.specs.Sources.{stream_of}
-use Rattle.data_types.specs.promise.Parts.{joined_rows}
+use Rattle.data_types.specs.Parts.{joined_rows}
 use Rattle.data_types.specs.promise.Table.{Column, Row}
 use Rattle.data_types.specs.declared.row_fault.RowFault.{RowFault}
 use Rattle.csv_write.specs.Faults.{IfRow}

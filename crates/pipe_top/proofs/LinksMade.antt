@@ -10,7 +10,7 @@ use Rattle.data_types.specs.promise.Table.{Column}
 use Rattle.stage_chain.specs.Chains.{chain_links, chain_traffic}
 use Rattle.csv_write.specs.Runs.{Counted}
 use Rattle.stage_model.specs.promise.Links.{Link, Links, links_behind}
-use Rattle.stage_model.specs.promise.Traffic.{link_blocks, link_nodes}
+use Rattle.stage_model.specs.Traffic.{link_blocks, link_nodes}
 use Rattle.stage_model.specs.promise.Typing.{Stage, plan_of}
 use Rattle.stream_face.specs.Streams.{Stream}
 use Rattle.unit_pass.specs.promise.Tally.{risen}

@@ -20,7 +20,8 @@ use Rattle.schema_check.specs.promise.Schemas.{DictFault, FailsHere, FaultFrom, 
 use Rattle.schema_check.specs.declared.rule.SchemaRule.{SchemaRule}
 use Rattle.schema_check.specs.declared.rule.SchemaRule.TheVariants as rules
 use Rattle.schema_meta.specs.declared.fault.MetaFault.TheVariants as meta
-use Rattle.stage_model.specs.promise.StageGrammar.{Cut, StageWord, cut_at, equals_sign, read_by, stage_cut, stage_of, stage_words, word_named}
+use Rattle.stage_model.specs.promise.StageGrammar.{Cut, StageWord, cut_at, equals_sign, read_by, stage_cut, stage_of, stage_words}
+use Rattle.stage_model.specs.StageGrammar.{word_named}
 use Rattle.stage_model.specs.promise.Typing.{Stage, plan_of}
 use Rattle.stage_model.specs.declared.fault.PlanFault.{PlanFault}
 use Rattle.stage_model.specs.declared.fault.PlanFault.TheVariants as plan

@@ -1,7 +1,7 @@
 //! The text of a table that stages make of a stream.
 ghost use Rattle.std.specs.Prelude.{◌≡◌, ◌≤◌, ◌+◌, ◌*◌, List, None, Some, ℕ, [], IsTrue, IfErr, IfOk, OnErr, OnOk, length};
 ghost use Rattle.csv_model.specs.promise.Text.{table_text};
-ghost use Rattle.data_types.specs.promise.Parts.{joined_rows};
+ghost use Rattle.data_types.specs.Parts.{joined_rows};
 ghost use Rattle.stages.specs.Structs.{column_structs};
 ghost use Rattle.stage_model.specs.promise.Links.{Whole};
 ghost use Rattle.stage_model.specs.promise.Stages.{table};

@@ -16,7 +16,8 @@ use Rattle.tree_model.specs.promise.TreeData.{Released, Live}
 use Rattle.raw_array.specs.promise.Members.{ArrayMembers, ArrayTree, members_of}
 use Rattle.data_types.specs.promise.ColumnKinds.{type_of_kind}
 use Rattle.data_types.specs.promise.KindTrees.{KindTree, kind_in}
-use Rattle.layout_rules.specs.promise.Layout.{is_valid, stored_bytes}
+use Rattle.layout_rules.specs.promise.Layout.{is_valid}
+use Rattle.layout_rules.specs.Layout.{stored_bytes}
 use Rattle.layout_rules.specs.promise.Values.{value_at}
 use Rattle.arr_import.specs.StoredItems.{stored_item}
 use Rattle.row_groups.specs.ItemKeys.{AreNumberBytes, HasKey, IsFloat, IsWhole, value_of}

@@ -16,7 +16,8 @@ use Rattle.tree_model.specs.promise.TreeData.{Released, Live, Trees, absent}
 use Rattle.tree_model.specs.promise.TreeParts.{IsLive}
 use Rattle.raw_array.specs.promise.Members.{ArrayTree, members_of}
 use Rattle.data_types.specs.promise.KindTrees.{KindTree}
-use Rattle.layout_rules.specs.promise.Layout.{buffer, first, is_valid_by, stored_bytes}
+use Rattle.layout_rules.specs.promise.Layout.{buffer, first, is_valid_by}
+use Rattle.layout_rules.specs.Layout.{stored_bytes}
 use Rattle.layout_rules.specs.promise.Values.{tree_items, value_at, values_of}
 use Rattle.arr_import.specs.Window.{Window, whole, item_at}
 use Rattle.arr_export.proofs.Each.{value-there, length-each}

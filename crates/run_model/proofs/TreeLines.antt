@@ -4,7 +4,7 @@ use Rattle.std.proofs.Common.{take, drop, get_or, take-append-drop, append_assoc
 use Rattle.std.specs.List.{flat_map}
 use Rattle.std.proofs.lemmas.List.{take_more}
 use Rattle.std.proofs.lemmas.Grind.{flat_map-append}
-use Rattle.data_types.specs.promise.WayTexts.{step_text}
+use Rattle.data_types.specs.WayTexts.{step_text}
 use Rattle.tree_text.specs.promise.FaultTexts.{text_fault_text}
 use Rattle.tree_text.specs.declared.fault.TextFault.TheVariants as texts
 use Rattle.run_model.specs.promise.Diagnostics.{line_of}

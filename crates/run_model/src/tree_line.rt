@@ -2,7 +2,8 @@
 ghost use Rattle.std.specs.Prelude.{◌++◌, codes, decimal, flat_map};
 ghost use Rattle.std.specs.Fmt.{signed_decimal};
 ghost use Rattle.schema_check.specs.promise.FaultTexts.{schema_rule_text};
-ghost use Rattle.data_types.specs.promise.WayTexts.{step_text, way_text};
+ghost use Rattle.data_types.specs.promise.WayTexts.{way_text};
+ghost use Rattle.data_types.specs.WayTexts.{step_text};
 ghost use Rattle.layout_rules.specs.promise.FaultTexts.{layout_fault_text, rule_text};
 ghost use Rattle.data_types.specs.promise.Ways.{steps_of};
 ghost use Rattle.tree_check.specs.promise.FaultTexts.{tree_fault_text};

@@ -16,8 +16,8 @@ use Rattle.data_types.specs.declared.typed.Typed.TheOpen.{Typed-F}
 use Rattle.data_types.specs.declared.typed.Typed.TheViews.{roll-Typed}
 use Rattle.data_types.specs.declared.typed.Typed.TheFolds.{map-Typed, fold-roll-Typed}
 use Rattle.data_types.specs.promise.KindTrees.{KindTree}
-use Rattle.data_types.specs.promise.TypedView.{typed_of, layer, dict_of}
-use Rattle.data_types.specs.TypedView.{dict_in}
+use Rattle.data_types.specs.promise.TypedView.{typed_of, dict_of}
+use Rattle.data_types.specs.TypedView.{layer, dict_in}
 use Rattle.data_types.specs.promise.Ways.{Steps, dictionary_step}
 use Rattle.schema_check.specs.promise.Schemas.{KidsTyped, DictTyped, TypedFrom, FaultFrom, KidFault}
 use Rattle.schema_check.specs.SchemaAnswers.{NodeOf, FaultHere, FaultBelow, FaultInKids, FaultInDict}

@@ -9,7 +9,8 @@ use Rattle.unit_pass.specs.promise.Tally.{risen}
 use Rattle.unit_pass.specs.Tally.{Tally}
 use Rattle.stage_model.specs.promise.Links.{Link, links_behind}
 use Rattle.stage_model.specs.promise.Stages.{chunks_after}
-use Rattle.stage_model.specs.promise.Traffic.{Made, link_blocks, link_nodes, table_nodes}
+use Rattle.stage_model.specs.promise.Traffic.{Made, table_nodes}
+use Rattle.stage_model.specs.Traffic.{link_blocks, link_nodes}
 use Rattle.stage_model.specs.promise.Typing.{Stage}
 use Rattle.stream_face.specs.Raw.{raw_joints, raw_state}
 use Rattle.stream_face.specs.promise.Shown.{Seen, Shown, rows_of_link}

@@ -3,10 +3,11 @@ use Rattle.std.proofs.Common.{◌≡◌, ◌≤◌, ◌<◌, ◌+◌, ◌++◌, 
 use Rattle.std.proofs.Common.{if◌then◌else◌, refl, sym, ◌∙◌, ap, subst, arith, inl, inr}
 use Rattle.std.specs.Global.{Global}
 use Rattle.std.proofs.lemmas.Bool.Decides.{eqb_tells}
-use Rattle.csv_model.specs.promise.Text.{header_text, rows_text, table_text}
+use Rattle.csv_model.specs.promise.Text.{table_text}
+use Rattle.csv_model.specs.Text.{header_text, rows_text}
 use Rattle.csv_write.specs.CsvTexts.{HasText}
 use Rattle.csv_write.specs.declared.csv_text.CsvText.{CsvText}
-use Rattle.data_types.specs.promise.Parts.{joined_rows}
+use Rattle.data_types.specs.Parts.{joined_rows}
 use Rattle.data_types.specs.promise.Table.{Column, Row}
 use Rattle.stage_model.specs.promise.Links.{Link, Whole}
 use Rattle.stage_model.specs.Links.{ChunksGiveTheWhole, last_columns}

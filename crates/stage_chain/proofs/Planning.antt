@@ -6,8 +6,8 @@ use Rattle.field_codec.specs.TextColumns.{HasTexts, HaveTexts}
 use Rattle.data_types.specs.ColumnForms.{AreColumnKinds}
 use Rattle.data_types.specs.promise.Table.{Column, Kind, Flat, Dict, Columns}
 use Rattle.stage_model.specs.Links.{last_columns}
-use Rattle.stage_model.specs.promise.Typing.{RuleTest, Stage, columns_after, first_failing, is_struct, plan_end, plan_from}
-use Rattle.stage_model.specs.Typing.{IsStageOver, plan_links, plan_steps}
+use Rattle.stage_model.specs.promise.Typing.{RuleTest, Stage, columns_after, is_struct, plan_end, plan_from}
+use Rattle.stage_model.specs.Typing.{first_failing, IsStageOver, plan_links, plan_steps}
 use Rattle.stage_model.specs.promise.Typing.{rules_of, stage_over, stage_unless, step_of, with_stage}
 use Rattle.stage_model.specs.declared.fault.PlanFault.{PlanFault}
 use Rattle.stage_model.specs.declared.fault.PlanRule.{PlanRule}

@@ -1,7 +1,7 @@
 -- A chain of stages over a stream: its links and rows, what they show, how they are made, and what is counted.
 use Rattle.std.specs.Prelude.{ℕ, ◌+◌, ◌==◌, if◌then◌else◌, List, [], ◌∷◌, Option, None, Some}
 use Rattle.csv_model.specs.promise.Batches.{Chunks}
-use Rattle.data_types.specs.promise.Parts.{joined_rows}
+use Rattle.data_types.specs.Parts.{joined_rows}
 use Rattle.data_types.specs.promise.Table.{Row}
 use Rattle.data_types.specs.declared.row_fault.RowFault.{RowFault}
 use Rattle.stages.specs.Dues.{due_with}

@@ -1,8 +1,7 @@
 //! The chain of the stages, over numbers that are types: a stream of each stage is over the stream of the one before it.
-ghost use Rattle.std.specs.Prelude.{◌≡◌, ◌≤◌, ◌+◌, ◌*◌, ◌++◌, ◌∷◌, ◌^◌, List, Option, Some, None, Err, ℕ, [], IsTrue, IfOk, IfErr, OnOk, OnErr, length, nat_lt};
-ghost use Rattle.std.specs.Prelude.{if◌then◌else◌};
+ghost use Rattle.std.specs.Prelude.{◌≡◌, ◌≤◌, ◌+◌, ◌*◌, ◌++◌, ◌∷◌, ◌^◌, List, Option, Some, None, Err, ℕ, [], IsTrue, IfOk, IfErr, OnOk, OnErr, length, nat_lt, if◌then◌else◌};
 ghost use Rattle.std.specs.Thread.{IsSync};
-ghost use Rattle.csv_model.specs.promise.Text.{rows_text};
+ghost use Rattle.csv_model.specs.Text.{rows_text};
 ghost use Rattle.csv_write.specs.CsvTexts.{HasText};
 ghost use Rattle.data_types.specs.ColumnForms.{AreColumnKinds};
 ghost use Rattle.data_types.specs.promise.Table.{Column};

@@ -1,10 +1,11 @@
 //! The text of a table that stages make of a stream.
 ghost use Rattle.std.specs.Prelude.{◌≡◌, ◌≤◌, ◌+◌, ◌*◌, List, None, Some, ℕ, [], All, IsTrue, IfErr, IfOk, OnErr, OnOk, length, get_or};
 ghost use Rattle.std.specs.List.{AllByRecursion};
-ghost use Rattle.csv_model.specs.promise.Text.{header_text, table_text};
+ghost use Rattle.csv_model.specs.promise.Text.{table_text};
+ghost use Rattle.csv_model.specs.Text.{header_text};
 ghost use Rattle.csv_write.specs.CsvTexts.{HasText};
 ghost use Rattle.field_codec.specs.TextColumns.{HaveTexts};
-ghost use Rattle.data_types.specs.promise.Parts.{joined_rows};
+ghost use Rattle.data_types.specs.Parts.{joined_rows};
 ghost use Rattle.stages.specs.Structs.{column_structs};
 ghost use Rattle.stage_model.specs.promise.Links.{Whole};
 ghost use Rattle.stage_model.specs.promise.Stages.{table};

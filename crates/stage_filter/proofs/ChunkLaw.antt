@@ -5,7 +5,7 @@ use Rattle.data_types.specs.promise.Parts.{fields_of, value_list}
 use Rattle.data_types.specs.promise.Table.{Row}
 use Rattle.data_types.specs.promise.Value.{Value, Values, Fields, no_values, more_values, values}
 use Rattle.raw_array.specs.promise.Members.{ArrayTree}
-use Rattle.data_types.specs.promise.ColumnKinds.{table_type}
+use Rattle.data_types.specs.ColumnKinds.{table_type}
 use Rattle.data_types.specs.promise.KindTrees.{KindTree}
 use Rattle.layout_rules.specs.promise.Values.{each, row_items, rows_of, values_of}
 use Rattle.arr_export.specs.promise.ArrayTrees.{table_tree}

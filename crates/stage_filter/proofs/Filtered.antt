@@ -21,7 +21,8 @@ use Rattle.data_types.specs.KindTrees.{TypedOk}
 use Rattle.layout_rules.specs.promise.Values.{rows_of}
 use Rattle.layout_rules.specs.promise.Walk.{ChunkOk}
 use Rattle.stage_model.specs.promise.Stages.{passes, rows_after}
-use Rattle.stage_model.specs.promise.Traffic.{Moved, made_blocks, made_nodes, table_blocks, table_nodes}
+use Rattle.stage_model.specs.promise.Traffic.{Moved, made_blocks, made_nodes, table_nodes}
+use Rattle.stage_model.specs.Traffic.{table_blocks}
 use Rattle.stage_model.specs.declared.stage.Const.{Const}
 use Rattle.stage_model.specs.declared.stage.Step.TheVariants as steps
 use Rattle.stage_model.specs.declared.stage.Test.{Test}

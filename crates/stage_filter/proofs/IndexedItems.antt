@@ -26,7 +26,8 @@ use Rattle.layout_rules.specs.promise.Values.{each, tree_items, value_at, values
 use Rattle.layout_rules.specs.promise.Walk.{LayoutOk}
 use Rattle.layout_rules.specs.Within.{IndexWithin}
 use Rattle.arr_export.specs.ArrayTrees.{AreIndices, IsPlaceOf, flat_type, looked_up}
-use Rattle.stage_model.specs.promise.Traffic.{flat_blocks, index_blocks, row_blocks}
+use Rattle.stage_model.specs.promise.Traffic.{flat_blocks}
+use Rattle.stage_model.specs.Traffic.{index_blocks, row_blocks}
 use Rattle.stream_face.specs.Lawful.{AreValues}
 use Rattle.column_fill.specs.Gathered.{values_at}
 use Rattle.stage_filter.specs.Kept.{index_in}

@@ -12,7 +12,8 @@ use Rattle.tree_model.specs.promise.TreeParts.{IsLive, child_at, children_of}
 use Rattle.tree_model.specs.Tree.{dictionary_at}
 use Rattle.tree_model.proofs.Lists.{tree_list-trees, trees-tree_list}
 use Rattle.raw_array.specs.promise.Members.{ArrayTree, members_of}
-use Rattle.data_types.specs.promise.ColumnKinds.{table_type, type_of_column, type_of_columns, type_of_kind, types_of_columns, types_of_members}
+use Rattle.data_types.specs.promise.ColumnKinds.{type_of_columns, type_of_kind, types_of_members}
+use Rattle.data_types.specs.ColumnKinds.{table_type, type_of_column, types_of_columns}
 use Rattle.data_types.specs.promise.KindTrees.{KindTree}
 use Rattle.layout_rules.specs.promise.Layout.{first}
 use Rattle.layout_rules.specs.promise.Values.{field_items, readers, row_items, rows_of, tree_items, value_at, values_of}

@@ -7,7 +7,8 @@ use Rattle.tree_model.specs.promise.TreeParts.{IsLive, children_of}
 use Rattle.tree_model.specs.promise.TreeData.{Released, trees}
 use Rattle.tree_model.specs.Tree.{Depth, depth_of_all}
 use Rattle.raw_array.specs.promise.Members.{ArrayTree, members_of}
-use Rattle.data_types.specs.promise.ColumnKinds.{type_of_kind, types_of_members, types_of_columns}
+use Rattle.data_types.specs.promise.ColumnKinds.{type_of_kind, types_of_members}
+use Rattle.data_types.specs.ColumnKinds.{types_of_columns}
 use Rattle.layout_rules.specs.promise.Layout.{first}
 use Rattle.layout_rules.specs.promise.Values.{tree_items, value_at}
 use Rattle.arr_export.specs.ArrayTrees.{IsColumn, flat_type}

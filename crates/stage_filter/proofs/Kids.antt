@@ -7,7 +7,8 @@ use Rattle.tree_model.specs.promise.TreeParts.{children_of}
 use Rattle.tree_model.specs.Tree.{Depth, depth_of_all}
 use Rattle.tree_model.proofs.Lists.{tree_list-trees}
 use Rattle.data_types.specs.declared.typed.Typed.{Typed, out-Typed}
-use Rattle.data_types.specs.promise.ColumnKinds.{type_of_column, type_of_columns, type_of_kind, types_of_columns}
+use Rattle.data_types.specs.promise.ColumnKinds.{type_of_columns, type_of_kind}
+use Rattle.data_types.specs.ColumnKinds.{type_of_column, types_of_columns}
 use Rattle.data_types.specs.promise.KindTrees.{KindTree}
 use Rattle.data_types.specs.KindTrees.{AllNodesOk, NodesOk, TypedOk}
 use Rattle.data_types.specs.promise.TypedView.{typed_of}

@@ -5,7 +5,7 @@ use Rattle.data_types.specs.declared.kind.DataType.{DataType}
 use Rattle.tree_model.specs.promise.TreeParts.{IsLive}
 use Rattle.raw_array.specs.promise.Members.{ArrayTree}
 use Rattle.col_build.specs.Encoding.{Fits}
-use Rattle.data_types.specs.promise.ColumnKinds.{table_type}
+use Rattle.data_types.specs.ColumnKinds.{table_type}
 use Rattle.data_types.specs.promise.KindTrees.{KindTree}
 use Rattle.layout_rules.specs.Lawful.{ItemsHold, PartsHold, RootHolds}
 use Rattle.layout_rules.specs.promise.Values.{rows_of, tree_items, values_of}

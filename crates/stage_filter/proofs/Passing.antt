@@ -8,7 +8,8 @@ use Rattle.tree_model.specs.promise.TreeParts.{IsLive, child_at}
 use Rattle.tree_model.specs.promise.TreeData.{Released}
 use Rattle.tree_model.proofs.Lists.{tree_list-trees}
 use Rattle.raw_array.specs.promise.Members.{ArrayTree, members_of}
-use Rattle.data_types.specs.promise.ColumnKinds.{type_of_columns, types_of_columns}
+use Rattle.data_types.specs.promise.ColumnKinds.{type_of_columns}
+use Rattle.data_types.specs.ColumnKinds.{types_of_columns}
 use Rattle.data_types.specs.promise.KindTrees.{KindTree}
 use Rattle.layout_rules.specs.promise.Layout.{first}
 use Rattle.layout_rules.specs.promise.Values.{each, row_items, rows_of, tree_items, value_at}

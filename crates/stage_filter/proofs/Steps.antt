@@ -19,12 +19,14 @@ use Rattle.unit_pass.specs.Tally.{Tally}
 use Rattle.unit_pass.specs.declared.no_memory.NoMemory.{NoMemory}
 use Rattle.raw_array.specs.promise.Members.{ArrayTree, members_of}
 use Rattle.arr_export.specs.promise.ArrayTrees.{table_tree}
-use Rattle.data_types.specs.promise.ColumnKinds.{table_type, type_of_column, type_of_columns, type_of_kind, types_of_columns, types_of_members}
+use Rattle.data_types.specs.promise.ColumnKinds.{type_of_columns, type_of_kind, types_of_members}
+use Rattle.data_types.specs.ColumnKinds.{table_type, type_of_column, types_of_columns}
 use Rattle.data_types.specs.promise.KindTrees.{KindTree}
 use Rattle.layout_rules.specs.promise.Layout.{end, first, is_valid}
 use Rattle.layout_rules.specs.promise.Values.{field_items, readers, row_items, tree_items, value_at}
 use Rattle.layout_rules.specs.promise.Walk.{LayoutOk}
-use Rattle.stage_model.specs.promise.Traffic.{Moved, table_blocks}
+use Rattle.stage_model.specs.promise.Traffic.{Moved}
+use Rattle.stage_model.specs.Traffic.{table_blocks}
 use Rattle.stream_face.specs.Lawful.{AreItems, DictsAreFull, HasFields, MemberDictsAreFull}
 use Rattle.column_fill.proofs.Counts.{kids-long}
 use Rattle.column_fill.specs.Gathered.{values_at}

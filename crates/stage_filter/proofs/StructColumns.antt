@@ -17,8 +17,10 @@ use Rattle.data_types.specs.declared.kind.ColKind.TheViews.{the_lemmas}
 use Rattle.data_types.specs.declared.kind.ColumnType.{ColumnType}
 use Rattle.data_types.proofs.StructColumns.{row_is}
 use Rattle.tree_model.specs.promise.TreeData.{Live, Trees, absent, more_trees, trees}
-use Rattle.data_types.specs.promise.ColumnKinds.{type_of_columns, type_of_kind, types_of_columns, types_of_members}
-use Rattle.stage_model.specs.promise.Traffic.{Dictionaries, blocks_from, kind_blocks, kind_nodes, member_blocks, member_nodes, member_values}
+use Rattle.data_types.specs.promise.ColumnKinds.{type_of_columns, type_of_kind, types_of_members}
+use Rattle.data_types.specs.ColumnKinds.{types_of_columns}
+use Rattle.stage_model.specs.promise.Traffic.{Dictionaries, blocks_from, kind_blocks, kind_nodes, member_blocks, member_nodes}
+use Rattle.stage_model.specs.Traffic.{member_values}
 use Rattle.stream_face.specs.Lawful.{AreFieldItems, AreItems}
 use Rattle.stage_filter.specs.Plain.{most_of_columns, most_of_members}
 

@@ -14,7 +14,8 @@ use Rattle.data_types.specs.promise.ColumnKinds.{type_of_columns, type_of_kind}
 use Rattle.layout_rules.specs.promise.Layout.{first}
 use Rattle.layout_rules.specs.promise.Values.{tree_items}
 use Rattle.layout_rules.specs.promise.Walk.{LayoutOk}
-use Rattle.stage_model.specs.promise.Traffic.{Moved, blocks_from, kind_blocks, kind_nodes, table_blocks, table_nodes}
+use Rattle.stage_model.specs.promise.Traffic.{Moved, blocks_from, kind_blocks, kind_nodes, table_nodes}
+use Rattle.stage_model.specs.Traffic.{table_blocks}
 use Rattle.stream_face.specs.Lawful.{AreItems, DictsAreFull}
 use Rattle.column_fill.specs.Gathered.{values_at}
 use Rattle.stage_filter.specs.Kept.{rows_at}

@@ -7,8 +7,7 @@ use Rattle.unit_pass.specs.Tally.{Tally}
 use Rattle.unit_pass.specs.declared.pass.TheConstants.{CHUNK}
 use Rattle.data_types.specs.promise.ColumnView.{members}
 use Rattle.data_types.specs.ColumnView.{column_of}
-use Rattle.data_types.specs.promise.Parts.{packed, packed_columns}
-use Rattle.data_types.specs.Parts.{AreWithin}
+use Rattle.data_types.specs.Parts.{packed, packed_columns, AreWithin}
 use Rattle.data_types.specs.promise.Table.{Column, Row}
 use Rattle.data_types.specs.declared.kind.ColumnType.{ColumnType}
 use Rattle.tree_model.specs.promise.TreeData.{Released}

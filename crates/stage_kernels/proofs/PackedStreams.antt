@@ -10,8 +10,8 @@ use Rattle.unit_pass.specs.declared.pass.TheConstants.{CHUNK}
 use Rattle.data_types.specs.ColumnForms.{AreColumnKinds, MembersAreColumns}
 use Rattle.data_types.specs.promise.ColumnView.{members}
 use Rattle.data_types.specs.ColumnView.{column_of}
-use Rattle.data_types.specs.promise.Parts.{column_values, fields_of, member_columns, packed, packed_columns, picked}
-use Rattle.data_types.specs.Parts.{AreWithin}
+use Rattle.data_types.specs.promise.Parts.{column_values, fields_of, member_columns, picked}
+use Rattle.data_types.specs.Parts.{packed, packed_columns, AreWithin}
 use Rattle.data_types.specs.promise.Table.{Column, Row, Columns as StructOf}
 use Rattle.data_types.specs.promise.Value.{Value, Null, Fields, values}
 use Rattle.data_types.specs.declared.kind.ColumnType.{ColumnType}
@@ -20,13 +20,14 @@ use Rattle.tree_model.specs.Tree.{Depth, depth_of_all, depth_of_maybe}
 use Rattle.tree_model.specs.promise.TreeCost.{Nodes}
 use Rattle.raw_schema.specs.promise.Members.{SchemaMembers, SchemaTree}
 use Rattle.data_types.specs.declared.kind.DataType.{DataType}
-use Rattle.data_types.specs.promise.ColumnKinds.{type_of_column, type_of_columns, types_of_columns, types_of_members}
-use Rattle.schema_check.specs.promise.ColumnSchema.{SchemaOf, member_schemas, schema_of_column}
+use Rattle.data_types.specs.promise.ColumnKinds.{type_of_columns, types_of_members}
+use Rattle.data_types.specs.ColumnKinds.{type_of_column, types_of_columns}
+use Rattle.schema_check.specs.promise.ColumnSchema.{SchemaOf, member_schemas}
+use Rattle.schema_check.specs.ColumnSchema.{schema_of_column}
 use Rattle.data_types.specs.promise.KindTrees.{KindTree}
 use Rattle.schema_check.specs.promise.Schemas.{DictTyped, KidsTyped, TypedFrom, TypedOf}
 use Rattle.arr_move.specs.TreeActs.{Distinct}
-use Rattle.stream_face.specs.Lawful.{AreFieldItems, AreItems, DictsHaveBytes, HasFields, IsTable, LawfulColumns, LawfulTables, MemberDictsHaveBytes}
-use Rattle.stream_face.specs.Lawful.{column_leaves, leaves, member_leaves, total_rows}
+use Rattle.stream_face.specs.Lawful.{AreFieldItems, AreItems, DictsHaveBytes, HasFields, IsTable, LawfulColumns, LawfulTables, MemberDictsHaveBytes, column_leaves, leaves, member_leaves, total_rows}
 use Rattle.array_laws.proofs.StructRows.{value_list-values}
 use Rattle.stages.proofs.ColumnSets.{same_columns}
 use Rattle.stage_kernels.specs.Packs.{PackFits}

@@ -14,8 +14,10 @@ use Rattle.tree_model.specs.promise.TreeData.{trees}
 use Rattle.tree_model.specs.Tree.{Depth, depth_of_all}
 use Rattle.tree_model.specs.promise.TreeCost.{Nodes}
 use Rattle.raw_schema.specs.Members.{nodes_of_all}
-use Rattle.data_types.specs.promise.ColumnKinds.{type_of_column, type_of_columns, types_of_columns}
-use Rattle.schema_check.specs.promise.ColumnSchema.{SchemaOf, schema_of_column}
+use Rattle.data_types.specs.promise.ColumnKinds.{type_of_columns}
+use Rattle.data_types.specs.ColumnKinds.{type_of_column, types_of_columns}
+use Rattle.schema_check.specs.promise.ColumnSchema.{SchemaOf}
+use Rattle.schema_check.specs.ColumnSchema.{schema_of_column}
 use Rattle.schema_check.specs.promise.Schemas.{KidsTyped, TypedFrom, TypedOf}
 use Rattle.arr_move.specs.TreeActs.{Distinct}
 use Rattle.stream_face.specs.Lawful.{AreItems, DictsHaveBytes, IsTable, LawfulColumns, LawfulTables, leaves, total_rows}

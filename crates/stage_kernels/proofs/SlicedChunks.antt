@@ -16,8 +16,8 @@ use Rattle.data_types.specs.promise.ColumnKinds.{type_of_columns}
 use Rattle.data_types.specs.promise.KindTrees.{KindTree}
 use Rattle.layout_rules.specs.promise.Values.{rows_of, tree_items}
 use Rattle.layout_rules.specs.promise.Walk.{ChunkOk, LayoutOk}
-use Rattle.stage_model.specs.promise.Stages.{is_within, sliced, sliced_chunks, unless_empty}
-use Rattle.stage_model.specs.Stages.{window_end, window_start}
+use Rattle.stage_model.specs.promise.Stages.{sliced, sliced_chunks, unless_empty}
+use Rattle.stage_model.specs.Stages.{is_within, window_end, window_start}
 use Rattle.stream_face.specs.Lawful.{DictsAreFull, IsChunkOf}
 use Rattle.unit_pass.specs.Tally.{Tally}
 use Rattle.stages.specs.Steps.{IsNext, Pushes}

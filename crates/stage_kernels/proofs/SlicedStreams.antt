@@ -4,7 +4,8 @@ use Rattle.std.specs.List.{AllByRecursion}
 use Rattle.data_types.specs.ColumnView.{column_of}
 use Rattle.data_types.specs.promise.Table.{Column, Row}
 use Rattle.data_types.specs.declared.kind.ColumnType.{ColumnType}
-use Rattle.stage_model.specs.promise.Stages.{is_within, sliced, sliced_chunks, unless_empty}
+use Rattle.stage_model.specs.promise.Stages.{sliced, sliced_chunks, unless_empty}
+use Rattle.stage_model.specs.Stages.{is_within}
 use Rattle.stream_face.specs.Lawful.{IsTable, LawfulColumns, LawfulTables, total_rows}
 use Rattle.stages.proofs.ColumnSets.{same_columns}
 use Rattle.stage_kernels.specs.Slices.{SliceFits}

@@ -3,7 +3,8 @@ use Rattle.std.proofs.Common.{arith, ◌≡◌, ◌≤◌, ◌<◌, ◌+◌, ◌
 use Rattle.std.proofs.Common.{refl, sym, ap, subst}
 use Rattle.std.proofs.lemmas.Int.{ints}
 use Rattle.std.proofs.lemmas.List.{get_or-map, length-map, get_or_default, length-drop, take-map, drop-map, take_rest}
-use Rattle.data_types.specs.promise.Parts.{member_columns, unpacked_columns}
+use Rattle.data_types.specs.promise.Parts.{member_columns}
+use Rattle.data_types.specs.Parts.{unpacked_columns}
 use Rattle.data_types.specs.promise.Table.{Column, Columns as StructOf, Members}
 use Rattle.tree_model.specs.promise.TreeParts.{IsLive, children_of, child_at}
 use Rattle.tree_model.specs.promise.TreeData.{Released, Live, absent, trees, tree_list}
@@ -16,7 +17,8 @@ use Rattle.raw_array.specs.Windows.{Window}
 use Rattle.data_types.specs.promise.KindTrees.{KindTree}
 use Rattle.layout_rules.specs.promise.Layout.{end, first, items, natural}
 use Rattle.layout_rules.specs.promise.Walk.{ChunkOk, LayoutOk}
-use Rattle.data_types.specs.promise.ColumnKinds.{table_type, type_of_column, type_of_columns, type_of_kind, types_of_columns}
+use Rattle.data_types.specs.promise.ColumnKinds.{type_of_columns, type_of_kind}
+use Rattle.data_types.specs.ColumnKinds.{table_type, type_of_column, types_of_columns}
 use Rattle.arr_export.specs.promise.ArrayTrees.{table_tree}
 use Rattle.arr_export.specs.ArrayTrees.{IsColumn}
 use Rattle.arr_move.specs.TreeActs.{struct_members}

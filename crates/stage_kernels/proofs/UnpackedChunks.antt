@@ -2,8 +2,8 @@
 use Rattle.std.proofs.Common.{arith, ◌≡◌, ◌≤◌, ◌<◌, ◌+◌, ◌∙◌, ℕ, zero, suc, ◌^◌, true, List, [], ◌∷◌, length, map, get_or, All, refl, sym, ap, subst}
 use Rattle.std.proofs.lemmas.List.{get_or-map, length-map}
 use Rattle.data_types.specs.ColumnView.{column_of}
-use Rattle.data_types.specs.promise.Parts.{column_values, member_columns, unpacked, unpacked_columns}
-use Rattle.data_types.specs.Parts.{IsFields}
+use Rattle.data_types.specs.promise.Parts.{column_values, member_columns}
+use Rattle.data_types.specs.Parts.{unpacked, unpacked_columns, IsFields}
 use Rattle.data_types.specs.promise.Table.{Column, Row, Columns as StructOf, Members, no_members, more_members}
 use Rattle.data_types.specs.promise.Value.{Value, Null, Truth, Whole, Bits, Bytes, Items, Fields}
 use Rattle.data_types.specs.declared.kind.ColumnType.{ColumnType}
@@ -16,7 +16,8 @@ use Rattle.unit_pass.specs.Tally.{Tally}
 use Rattle.data_types.specs.promise.KindTrees.{KindTree}
 use Rattle.layout_rules.specs.promise.Walk.{ChunkOk, LayoutOk}
 use Rattle.layout_rules.specs.promise.Values.{rows_of}
-use Rattle.data_types.specs.promise.ColumnKinds.{table_type, type_of_column, type_of_columns, types_of_columns}
+use Rattle.data_types.specs.promise.ColumnKinds.{type_of_columns}
+use Rattle.data_types.specs.ColumnKinds.{table_type, type_of_column, types_of_columns}
 use Rattle.array_laws.specs.Picking.{Unpacked, cut_children}
 use Rattle.stage_model.specs.promise.Typing.{no_column}
 use Rattle.stage_model.specs.Typing.{column_at}

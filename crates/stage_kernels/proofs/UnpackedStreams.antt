@@ -8,7 +8,8 @@ use Rattle.std.proofs.Props.{props}
 use Rattle.std.proofs.lemmas.List.{length-map}
 use Rattle.data_types.specs.ColumnForms.{AreColumnKinds, MembersAreColumns}
 use Rattle.data_types.specs.ColumnView.{column_of}
-use Rattle.data_types.specs.promise.Parts.{column_values, fields_of, member_columns, unpacked, unpacked_columns}
+use Rattle.data_types.specs.promise.Parts.{column_values, fields_of, member_columns}
+use Rattle.data_types.specs.Parts.{unpacked, unpacked_columns}
 use Rattle.data_types.specs.promise.Table.{Column, Row, Kind, Columns, Members, no_members, more_members}
 use Rattle.data_types.specs.promise.Value.{Value, Null, Truth, Whole, Bits, Bytes, Items, Fields}
 use Rattle.data_types.specs.declared.kind.ColumnType.{ColumnType}
@@ -17,12 +18,12 @@ use Rattle.tree_model.specs.Tree.{Depth, depth_of_all}
 use Rattle.tree_model.specs.promise.TreeCost.{Nodes}
 use Rattle.raw_schema.specs.Members.{nodes_of_all}
 use Rattle.data_types.specs.promise.ColumnKinds.{type_of_columns}
-use Rattle.schema_check.specs.promise.ColumnSchema.{SchemaOf, schema_of_column, member_schemas}
+use Rattle.schema_check.specs.promise.ColumnSchema.{SchemaOf, member_schemas}
+use Rattle.schema_check.specs.ColumnSchema.{schema_of_column}
 use Rattle.schema_check.specs.promise.Schemas.{TypedOf}
 use Rattle.stage_model.specs.promise.Typing.{no_column, struct_members}
 use Rattle.stage_model.specs.Typing.{column_at}
-use Rattle.stream_face.specs.Lawful.{AreFieldItems, AreItems, DictsHaveBytes, HasFields, IsTable, LawfulColumns, LawfulTables, MemberDictsHaveBytes}
-use Rattle.stream_face.specs.Lawful.{column_leaves, leaves, member_leaves, total_rows}
+use Rattle.stream_face.specs.Lawful.{AreFieldItems, AreItems, DictsHaveBytes, HasFields, IsTable, LawfulColumns, LawfulTables, MemberDictsHaveBytes, column_leaves, leaves, member_leaves, total_rows}
 use Rattle.stages.proofs.CodedColumns.{coded_columns, coded_kind}
 use Rattle.stages.proofs.Spliced.{at-behind, at-front, at-middle, each-holds, length-spliced, spliced}
 use Rattle.stage_kernels.specs.Unpacks.{UnpackFits}

@@ -1,8 +1,7 @@
 -- Columns that go under a new struct, behind those that stay.
 use Rattle.std.specs.Prelude.{◌≡◌, ◌≢◌, ◌≤◌, ◌<◌, ◌++◌, ℕ, List, length, map, get_or}
 use Rattle.data_types.specs.ColumnView.{column_of}
-use Rattle.data_types.specs.promise.Parts.{packed_columns}
-use Rattle.data_types.specs.Parts.{AreWithin}
+use Rattle.data_types.specs.Parts.{packed_columns, AreWithin}
 use Rattle.data_types.specs.promise.Table.{Column}
 use Rattle.data_types.specs.declared.kind.ColumnType.{ColumnType}
 use Rattle.tree_model.specs.promise.TreeParts.{child_at, children_of}

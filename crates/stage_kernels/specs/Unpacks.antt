@@ -2,7 +2,7 @@
 use Rattle.std.specs.Prelude.{◌≡◌, ◌<◌, ◌≤◌, ℕ, List, length, map}
 use Rattle.data_types.specs.declared.kind.ColumnType.{ColumnType}
 use Rattle.data_types.specs.ColumnView.{column_of}
-use Rattle.data_types.specs.promise.Parts.{unpacked_columns}
+use Rattle.data_types.specs.Parts.{unpacked_columns}
 use Rattle.data_types.specs.promise.Table.{Column, Columns, Members}
 use Rattle.tree_model.specs.promise.TreeParts.{children_of, child_at}
 use Rattle.raw_array.specs.promise.Members.{ArrayTree, members_of}

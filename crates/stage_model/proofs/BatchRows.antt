@@ -5,7 +5,7 @@ use Rattle.std.specs.Prelude.{◌==◌, Ok}
 use Rattle.std.specs.List.{onto_first}
 use Rattle.csv_model.specs.promise.Batches.{batches_if, batches_in, cut, rows_before}
 use Rattle.csv_model.specs.promise.Reading.{Record, body}
-use Rattle.data_types.specs.promise.Parts.{joined_rows}
+use Rattle.data_types.specs.Parts.{joined_rows}
 use Rattle.data_types.specs.promise.Table.{Column, Row}
 use Rattle.stage_model.specs.promise.Links.{Whole}
 use Rattle.stage_model.specs.Links.{last_chunks}

@@ -5,13 +5,15 @@ use Rattle.std.specs.List.{filter}
 use Rattle.std.proofs.lemmas.List.{map-append}
 use Rattle.std.proofs.lemmas.List.Elements.{filter-append}
 use Rattle.csv_model.specs.promise.Batches.{Chunks}
-use Rattle.data_types.specs.promise.Parts.{joined_rows, packed, picked, unpacked}
+use Rattle.data_types.specs.promise.Parts.{picked}
+use Rattle.data_types.specs.Parts.{joined_rows, packed, unpacked}
 use Rattle.data_types.specs.promise.Table.{Column, Row, Table}
 use Rattle.data_types.specs.promise.Value.{Null}
 use Rattle.data_types.specs.declared.row_fault.RowFault.{RowFault}
 use Rattle.stage_model.specs.promise.Links.{Whole}
 use Rattle.stage_model.specs.Links.{last_chunks, last_columns}
-use Rattle.stage_model.specs.promise.Stages.{ChunkStage, TableStage, at_end, chunks_after, is_within, passes, rows_after, sliced, sliced_chunks, table, unless_empty}
+use Rattle.stage_model.specs.promise.Stages.{ChunkStage, TableStage, at_end, chunks_after, passes, rows_after, sliced, sliced_chunks, table, unless_empty}
+use Rattle.stage_model.specs.Stages.{is_within}
 use Rattle.stage_model.specs.promise.Typing.{Stage}
 use Rattle.stage_model.specs.declared.stage.Step.{Step}
 use Rattle.stage_model.specs.declared.stage.Step.TheVariants as steps

@@ -6,8 +6,8 @@ use Rattle.std.specs.List.{AllByRecursion, filter, list_any, position_or_len, ra
 use Rattle.std.specs.Str.{bytes_eq}
 use Rattle.data_types.specs.promise.Table.{Column}
 use Rattle.data_types.specs.Parts.{AreWithin}
-use Rattle.stage_model.specs.promise.Typing.{others, RuleTest, Stage, first_failing, place_if, place_of, places_of, rules_of, stage_unless}
-use Rattle.stage_model.specs.Typing.{FitsColumns, IsStageOver}
+use Rattle.stage_model.specs.promise.Typing.{RuleTest, Stage, place_if, place_of, places_of, rules_of, stage_unless}
+use Rattle.stage_model.specs.Typing.{others, first_failing, FitsColumns, IsStageOver}
 use Rattle.stage_model.specs.promise.Typing.{step_of, names_of}
 use Rattle.stage_model.specs.declared.fault.PlanRule.{PlanRule}
 use Rattle.stage_model.specs.declared.stage.StageText.{StageText}

@@ -3,8 +3,8 @@ use Rattle.std.proofs.Common.{◌≡◌, ◌≤◌, ◌<◌, ℕ, suc, ◌+◌, 
 use Rattle.std.proofs.Math.Seq.{drop-nil, take-nil}
 use Rattle.std.proofs.lemmas.Bool.{cases_lt, lt-ltb, le-ltb, le-leb, lt-leb}
 use Rattle.data_types.specs.promise.Table.{Row}
-use Rattle.stage_model.specs.promise.Stages.{is_within, sliced}
-use Rattle.stage_model.specs.Stages.{window_end, window_start}
+use Rattle.stage_model.specs.promise.Stages.{sliced}
+use Rattle.stage_model.specs.Stages.{is_within, window_end, window_start}
 
 before-window : (off len number : ℕ) → number < off → is_within off len number ≡ false
 before-window off len number h = rw (lt-leb off number h) refl

@@ -2,7 +2,8 @@
 use Rattle.std.proofs.Common.{◌≡◌, ℕ, Bool, true, false, true≢false, List, [], ◌∷◌, refl, sym, ap, subst, ◌∙◌}
 use Rattle.std.specs.Prelude.{not, ◌||◌, ◌&&◌, get_or}
 use Rattle.std.specs.List.{list_all}
-use Rattle.data_types.specs.promise.Parts.{replaced, unpacked_columns}
+use Rattle.data_types.specs.promise.Parts.{replaced}
+use Rattle.data_types.specs.Parts.{unpacked_columns}
 use Rattle.data_types.specs.promise.Table.{Column, Kind, Flat, Dict, Columns, Members}
 use Rattle.data_types.specs.declared.kind.DataType.{DataType}
 use Rattle.stage_model.proofs.Numbers.{none-fails}

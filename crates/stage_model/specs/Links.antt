@@ -2,7 +2,7 @@
 use Rattle.std.specs.Prelude.{◌≡◌, ℕ, List, [], ◌∷◌, None, Ok}
 use Rattle.csv_model.specs.promise.Batches.{Chunks, batches_in}
 use Rattle.csv_model.specs.promise.Reading.{Record, body}
-use Rattle.data_types.specs.promise.Parts.{joined_rows}
+use Rattle.data_types.specs.Parts.{joined_rows}
 use Rattle.data_types.specs.promise.Table.{Column, Row}
 use Rattle.stage_model.specs.promise.Stages.{ChunkStage, table}
 use Rattle.stage_model.specs.promise.Typing.{Stage}

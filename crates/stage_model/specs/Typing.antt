@@ -1,16 +1,16 @@
 -- Plans: the columns and the steps of stages, why texts are no stages, and which columns a step takes.
-use Rattle.std.specs.Prelude.{◌≡◌, ℕ, ◌<◌, true, List, ◌∷◌, get_or, map}
-use Rattle.std.specs.Prelude.{Ok, Err}
-use Rattle.std.specs.List.{flat_map, list_all}
-use Rattle.data_types.specs.promise.Parts.{packed_columns, picked, replaced, unpacked_columns}
-use Rattle.data_types.specs.Parts.{AreWithin}
+use Rattle.std.specs.Prelude.{◌≡◌, ℕ, ◌<◌, true, List, ◌∷◌, get_or, map, Ok, Err, Bool, not, ◌==◌, Option, is_some}
+use Rattle.std.specs.List.{flat_map, list_all, filter, find, list_any, range_with_len}
+use Rattle.data_types.specs.promise.Parts.{picked, replaced}
+use Rattle.data_types.specs.Parts.{packed_columns, unpacked_columns, AreWithin}
 use Rattle.data_types.specs.promise.Table.{Column, Flat, Dict, Columns, Members}
 use Rattle.data_types.specs.declared.kind.DataType.{DataType}
 use Rattle.stage_model.specs.declared.fault.PlanFault.{PlanFault}
 use Rattle.stage_model.specs.declared.stage.StageText.{StageText}
 use Rattle.stage_model.specs.declared.stage.Step.{Step}
 use Rattle.stage_model.specs.declared.stage.Step.TheVariants as steps
-use Rattle.stage_model.specs.promise.Typing.{Stage, column, compares, is_bytes, is_ordered, is_summed, no_column, plan_of, stage_over, takes, totals_columns}
+use Rattle.stage_model.specs.promise.Typing.{Stage, column, compares, is_bytes, is_ordered, is_summed, no_column, plan_of, stage_over, totals_columns, RuleTest}
+use Rattle.csv_model.specs.promise.Header.{first_twice}
 
 -- ---- a stage, and stages in a row
 
@@ -65,3 +65,13 @@ HasColumns columns (steps.Plain place) after =
     (type : DataType) × ((column_at columns place).kind ≡ Dict type) × (after ≡ replaced place (column (column_at columns place).name (Flat type)) columns)
 HasColumns columns (steps.Totals places) after =
     (list_all (λ c. is_summed c.kind) (picked no_column places columns) ≡ true) × (after ≡ flat_map totals_columns (picked no_column places columns))
+
+-- the other numbers below `count`, in order
+abbrev pub others : List ℕ → ℕ → List ℕ
+others picks count = filter (λ p. not (list_any (λ q. q == p) picks)) (range_with_len 0 count)
+
+abbrev pub has_twice : List (List ℕ) → Bool
+has_twice names = is_some (first_twice names)
+
+abbrev pub first_failing : List RuleTest → Option RuleTest
+first_failing rule_tests = find (λ t. t.fails) rule_tests

@@ -6,7 +6,8 @@ use Rattle.std.proofs.lemmas.List.{length-map}
 use Rattle.std.proofs.lemmas.List.Elements.{filter-append}
 use Rattle.data_types.specs.promise.Parts.{picked}
 use Rattle.data_types.specs.promise.Table.{Column}
-use Rattle.stage_model.specs.promise.Typing.{no_column, others}
+use Rattle.stage_model.specs.promise.Typing.{no_column}
+use Rattle.stage_model.specs.Typing.{others}
 
 place-or-len : {X Y : Type 0} (p : Y → Bool) (f : X → Y) (xs : List X) → position_or_len p (map f xs) ≡ position_or_len (λ x. p (f x)) xs
 place-or-len p f [] = refl

@@ -6,7 +6,8 @@ use Rattle.std.specs.List.{position_or_len, slice_split}
 use Rattle.std.proofs.lemmas.Bool.{cases_Bool, le-ltb, lt-ltb, ltb-false, ltb-true}
 use Rattle.std.proofs.lemmas.List.{drop-drop}
 use Rattle.std.proofs.lemmas.List.Splits.{slice_split_first}
-use Rattle.stage_model.specs.promise.StageGrammar.{Cut, comma, cut_at, cut_behind, names_in, one_name}
+use Rattle.stage_model.specs.promise.StageGrammar.{Cut, comma, cut_at, names_in, one_name}
+use Rattle.stage_model.specs.StageGrammar.{cut_behind}
 use Rattle.stage_model.specs.declared.stage.StageText.{StageText}
 use Rattle.stage_plan.proofs.Cuts.{tail_all}
 

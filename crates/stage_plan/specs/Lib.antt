@@ -1,6 +1,7 @@
 pub mod promise
-pub mod Types
 pub mod Code
-pub mod StageWords
+pub mod Entries
 pub mod FaultTexts
 pub mod PlanWords
+pub mod StageWords
+pub mod Types

@@ -4,9 +4,10 @@ ghost use Rattle.std.specs.List.{flat_map};
 ghost use Rattle.data_types.specs.ColumnForms.{KindsOk};
 ghost use Rattle.data_types.specs.ColumnView.{column_of, kind_of};
 ghost use Rattle.data_types.specs.promise.Table.{Flat};
-ghost use Rattle.data_types.specs.promise.Parts.{member_columns, packed_columns, picked, unpacked_columns};
-ghost use Rattle.data_types.specs.Parts.{AreWithin};
-ghost use Rattle.stage_model.specs.promise.Typing.{column, columns_after, dict_kind, names_of, no_column, others, place_of, places_of, plain_kind, scale_of};
+ghost use Rattle.data_types.specs.promise.Parts.{member_columns, picked};
+ghost use Rattle.data_types.specs.Parts.{packed_columns, unpacked_columns, AreWithin};
+ghost use Rattle.stage_model.specs.promise.Typing.{column, columns_after, dict_kind, names_of, no_column, place_of, places_of, plain_kind, scale_of};
+ghost use Rattle.stage_model.specs.Typing.{others};
 ghost use Rattle.stage_model.specs.promise.Typing.{struct_members, totals_columns};
 ghost use Rattle.stage_plan.specs.PlanWords.{IsThere, columns_in, kind_by, replaced_kind, with_end};
 

@@ -1,6 +1,7 @@
 //! A text cut at a byte.
 ghost use Rattle.std.specs.Prelude.{◌≡◌, ◌==◌, IfSome, IfNone, position, Some, None};
-ghost use Rattle.stage_model.specs.promise.StageGrammar.{cut_at, cut_behind};
+ghost use Rattle.stage_model.specs.promise.StageGrammar.{cut_at};
+ghost use Rattle.stage_model.specs.StageGrammar.{cut_behind};
 
 /// What precedes the first such byte of a text, and what follows it.
 pub(crate) fn cut(text: &[u8], byte: u8) -> Option<(&[u8], &[u8])>

@@ -5,7 +5,8 @@ ghost use Rattle.std.specs.List.{list_any};
 ghost use Rattle.csv_model.specs.promise.Header.{first_twice, is_among};
 ghost use Rattle.data_types.specs.ColumnView.{column_of};
 ghost use Rattle.data_types.specs.Parts.{AreWithin};
-ghost use Rattle.stage_model.specs.promise.Typing.{has_twice, others, place_if, places_of};
+ghost use Rattle.stage_model.specs.promise.Typing.{place_if, places_of};
+ghost use Rattle.stage_model.specs.Typing.{has_twice, others};
 ghost use Rattle.stage_plan.specs.PlanWords.{has_text, place_among, texts};
 
 use data_types::ColumnType;

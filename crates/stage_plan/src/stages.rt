@@ -1,8 +1,8 @@
 //! Stage texts: the name of a stage, `=`, and its arguments.
 ghost use Rattle.std.specs.Prelude.{◌≡◌, ◌≢◌, List, ℕ, IfOk, IfErr, IfSome, IfNone, option_map, Some, None};
 ghost use Rattle.stage_model.specs.promise.StageGrammar.{comma, comparisons, cut_at, lone_tests, names_in, one_name, read_filter, read_pack};
-ghost use Rattle.stage_model.specs.StageGrammar.{StageIs, StageFaultIs};
-ghost use Rattle.stage_model.specs.promise.StageGrammar.{read_slice, stage_words, test_if, test_named, window_number, word_named};
+ghost use Rattle.stage_model.specs.StageGrammar.{StageIs, StageFaultIs, word_named};
+ghost use Rattle.stage_model.specs.promise.StageGrammar.{read_slice, stage_words, test_if, test_named, window_number};
 ghost use Rattle.stage_model.specs.declared.fault.StageFault.TheVariants as faults;
 ghost use Rattle.stage_model.specs.declared.stage.StageText.{StageText as AStage};
 ghost use Rattle.stage_model.specs.declared.stage.StageText.TheVariants as texts;

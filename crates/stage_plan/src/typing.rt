@@ -1,13 +1,12 @@
 //! The typing of stages over columns.
-ghost use Rattle.std.specs.Prelude.{◌≡◌, ◌≢◌, ◌<◌, ◌+◌, ◌-◌, ◌^◌, ◌||◌, ℕ, List, All, IfOk, IfErr, IfSome, IfNone, Ok, Err, [], get_or, length, map, option_map};
-ghost use Rattle.std.specs.Prelude.{true, false};
+ghost use Rattle.std.specs.Prelude.{◌≡◌, ◌≢◌, ◌<◌, ◌+◌, ◌-◌, ◌^◌, ◌||◌, ℕ, List, All, IfOk, IfErr, IfSome, IfNone, Ok, Err, [], get_or, length, map, option_map, true, false};
 ghost use Rattle.std.specs.List.{list_all, list_any};
 ghost use Rattle.data_types.specs.ColumnForms.{KindsOk};
 ghost use Rattle.data_types.specs.ColumnView.{column_of, kind_of};
 ghost use Rattle.data_types.specs.promise.Table.{Column};
 ghost use Rattle.stage_model.specs.promise.Typing.{columns_after, columns_named, const_for, drops_all, is_struct, lacks_constant, names_of, no_column};
-ghost use Rattle.stage_model.specs.Typing.{PlanFaultIs};
-ghost use Rattle.stage_model.specs.promise.Typing.{stage_over, step_of, has_twice, is_bytes, is_dict, is_ordered, is_summed, takes, with_stage};
+ghost use Rattle.stage_model.specs.Typing.{PlanFaultIs, has_twice};
+ghost use Rattle.stage_model.specs.promise.Typing.{stage_over, step_of, is_bytes, is_dict, is_ordered, is_summed, takes, with_stage};
 ghost use Rattle.stage_model.specs.declared.stage.Step.TheVariants as steps;
 ghost use Rattle.stage_model.specs.declared.fault.PlanFault.TheVariants as faults;
 ghost use Rattle.stage_plan.specs.PlanWords.{IsPlan, IsThere, columns_in};

@@ -10,7 +10,8 @@ use Rattle.tree_model.specs.promise.TreeData.{Released, Live, Trees, no_trees, m
 use Rattle.tree_model.proofs.Lists.{tree_list-trees}
 use Rattle.raw_array.specs.promise.Members.{ArrayMembers, ArrayTree, Buffer, Cost, holds_of}
 use Rattle.raw_array.specs.Members.{cost_of_all, cost_of_maybe}
-use Rattle.data_types.specs.promise.ColumnKinds.{type_of_column, type_of_columns, type_of_kind, types_of_columns, types_of_members}
+use Rattle.data_types.specs.promise.ColumnKinds.{type_of_columns, type_of_kind, types_of_members}
+use Rattle.data_types.specs.ColumnKinds.{type_of_column, types_of_columns}
 use Rattle.data_types.specs.promise.KindTrees.{KindTree}
 use Rattle.layout_rules.specs.Lawful.{PartsHold, RootHolds}
 use Rattle.layout_rules.specs.promise.Layout.{buffer_count, layout_of}

@@ -12,8 +12,8 @@ use Rattle.arr_move.specs.TreeActs.{Distinct}
 use Rattle.csv_model.specs.promise.Header.{is_among, twice_behind}
 use Rattle.data_types.specs.promise.Table.{Column}
 use Rattle.stage_model.proofs.Numbers.{none-fails}
-use Rattle.stage_model.specs.promise.Typing.{Stage, column_named, has_twice, names_of, no_column, others, place_if, place_of, places_of, rest_of, rules_of}
-use Rattle.stage_model.specs.Typing.{IsStageOver}
+use Rattle.stage_model.specs.promise.Typing.{Stage, column_named, names_of, no_column, place_if, place_of, places_of, rest_of, rules_of}
+use Rattle.stage_model.specs.Typing.{has_twice, others, IsStageOver}
 use Rattle.stage_model.specs.promise.Typing.{step_of}
 use Rattle.stage_model.specs.declared.stage.StageText.{StageText}
 use Rattle.stage_model.specs.declared.stage.StageText.TheVariants as texts

@@ -10,8 +10,8 @@ use Rattle.std.proofs.lemmas.List.{drop_more, length-append, map-append}
 use Rattle.std.proofs.lemmas.List.Elements.{All-append, All-cons, All-drop, All-get_or, All-head, All-nil, All-tail, All-take}
 use Rattle.data_types.specs.ColumnForms.{AreColumnKinds}
 use Rattle.data_types.specs.promise.ColumnView.{members}
-use Rattle.data_types.specs.promise.Parts.{member_columns, packed_columns, picked, replaced, unpacked_columns}
-use Rattle.data_types.specs.Parts.{AreWithin}
+use Rattle.data_types.specs.promise.Parts.{member_columns, picked, replaced}
+use Rattle.data_types.specs.Parts.{packed_columns, unpacked_columns, AreWithin}
 use Rattle.data_types.specs.promise.Table.{Column, Kind, Flat, Dict, Columns, Members, no_members, more_members}
 use Rattle.data_types.specs.declared.kind.DataType.{DataType}
 use Rattle.data_types.specs.declared.kind.DataType.TheVariants as kinds

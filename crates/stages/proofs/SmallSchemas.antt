@@ -7,7 +7,8 @@ use Rattle.tree_model.specs.promise.TreeData.{trees}
 use Rattle.tree_model.specs.Tree.{Depth, depth_of_all}
 use Rattle.tree_model.specs.promise.TreeCost.{Nodes}
 use Rattle.raw_schema.specs.Members.{nodes_of_all}
-use Rattle.schema_check.specs.promise.ColumnSchema.{SchemaOf, column_schema, member_schemas, schema_of_column}
+use Rattle.schema_check.specs.promise.ColumnSchema.{SchemaOf, column_schema, member_schemas}
+use Rattle.schema_check.specs.ColumnSchema.{schema_of_column}
 use Rattle.stage_model.specs.promise.Traffic.{Made, kind_nodes, member_nodes, table_nodes}
 use Rattle.stream_face.specs.Lawful.{column_leaves, leaves, member_leaves}
 use Rattle.stages.specs.Structs.{column_structs, member_structs, structs}

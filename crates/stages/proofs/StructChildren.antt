@@ -11,7 +11,8 @@ use Rattle.data_types.specs.promise.KindTrees.{KindTree}
 use Rattle.layout_rules.specs.promise.Layout.{end}
 use Rattle.layout_rules.specs.promise.Values.{tree_items}
 use Rattle.layout_rules.specs.promise.Walk.{LayoutOk}
-use Rattle.data_types.specs.promise.ColumnKinds.{table_type, type_of_kind, types_of_columns}
+use Rattle.data_types.specs.promise.ColumnKinds.{type_of_kind}
+use Rattle.data_types.specs.ColumnKinds.{table_type, types_of_columns}
 use Rattle.arr_move.specs.TreeActs.{FitParentWindow}
 use Rattle.array_laws.specs.Picking.{AreLive}
 use Rattle.stages.specs.Children.{ShowsChildren}

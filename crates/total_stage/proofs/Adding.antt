@@ -5,7 +5,7 @@ use Rattle.std.proofs.lemmas.List.{length-append}
 use Rattle.std.proofs.lemmas.List.Sums.{fold-append}
 use Rattle.std.specs.Prelude.{nat_abs}
 use Rattle.std.specs.List.{AllByRecursion, fold}
-use Rattle.stage_model.specs.promise.Stages.{greater, lesser, sum_of}
+use Rattle.stage_model.specs.Stages.{greater, lesser, sum_of}
 use Rattle.total_stage.specs.Totals.{AreTotals, IsSmall, highest, largest, lowest}
 use Rattle.total_stage.specs.declared.numbers.Totals.{Totals}
 

@@ -12,8 +12,8 @@ use Rattle.csv_read.specs.Chunks.{FitFrom, FitsKind, blocks_from, chunk_blocks, 
 use Rattle.data_types.specs.ColumnForms.{AreColumnKinds, IsColumnKind}
 use Rattle.data_types.specs.ColumnView.{column_of}
 use Rattle.data_types.specs.FieldText.{IsValueOf}
-use Rattle.data_types.specs.promise.Parts.{column_values, joined_rows, picked}
-use Rattle.data_types.specs.Parts.{AreWithin}
+use Rattle.data_types.specs.promise.Parts.{column_values, picked}
+use Rattle.data_types.specs.Parts.{joined_rows, AreWithin}
 use Rattle.data_types.specs.promise.Table.{Column, Kind, Flat, Dict, Columns, Row}
 use Rattle.data_types.specs.declared.kind.DataType.{DataType}
 use Rattle.data_types.specs.promise.Value.{Value, Null, byte_total, bytes_of}
@@ -27,8 +27,10 @@ use Rattle.tree_model.specs.Tree.{Depth}
 use Rattle.unit_pass.specs.declared.pass.TheConstants.{CHUNK}
 use Rattle.column_fill.proofs.ColumnBlocks.{blocks-are}
 use Rattle.column_fill.proofs.ValuesTaken.{values-fit}
-use Rattle.stage_model.specs.promise.Stages.{at_end, numbers_at, totals_row}
-use Rattle.stage_model.specs.promise.Traffic.{Made, blocks_from as made_from, kind_blocks, kind_nodes, table_blocks, table_nodes}
+use Rattle.stage_model.specs.promise.Stages.{at_end}
+use Rattle.stage_model.specs.Stages.{numbers_at, totals_row}
+use Rattle.stage_model.specs.promise.Traffic.{Made, blocks_from as made_from, kind_blocks, kind_nodes, table_nodes}
+use Rattle.stage_model.specs.Traffic.{table_blocks}
 use Rattle.stage_model.specs.promise.Typing.{is_summed, no_column, totals_columns}
 use Rattle.stream_face.specs.Lawful.{AreItems, AreValues, DictsHaveBytes, IsTable, LawfulColumns, LawfulTables, column_leaves, leaves, total_rows}
 use Rattle.stages.proofs.ColumnSets.{same_columns}

@@ -4,7 +4,7 @@ use Rattle.std.specs.Prelude.{◌^◌, None, Some, All}
 use Rattle.std.proofs.lemmas.List.{append-nil, length-map}
 use Rattle.csv_read.specs.Chunks.{FitFrom, chunk_blocks, chunk_of}
 use Rattle.data_types.specs.ColumnView.{column_of}
-use Rattle.data_types.specs.promise.Parts.{joined_rows}
+use Rattle.data_types.specs.Parts.{joined_rows}
 use Rattle.data_types.specs.promise.Table.{Column, Kind, Row}
 use Rattle.data_types.specs.declared.kind.ColumnType.{ColumnType}
 use Rattle.data_types.specs.promise.ColumnKinds.{type_of_columns}
@@ -14,8 +14,9 @@ use Rattle.raw_array.specs.promise.Members.{ArrayTree, Cost}
 use Rattle.tree_model.specs.promise.TreeParts.{IsLive, child_at}
 use Rattle.unit_pass.specs.promise.Tally.{risen}
 use Rattle.unit_pass.specs.Tally.{Tally}
-use Rattle.stage_model.specs.promise.Stages.{totals_row}
-use Rattle.stage_model.specs.promise.Traffic.{Made, made_blocks, made_nodes, table_blocks}
+use Rattle.stage_model.specs.Stages.{totals_row}
+use Rattle.stage_model.specs.promise.Traffic.{Made, made_blocks, made_nodes}
+use Rattle.stage_model.specs.Traffic.{table_blocks}
 use Rattle.stage_model.specs.declared.stage.Step.TheVariants as steps
 use Rattle.stream_face.specs.Lawful.{DictsAreFull, IsChunkOf, LawfulColumns, LawfulTables}
 use Rattle.stages.specs.Steps.{GivesOut}

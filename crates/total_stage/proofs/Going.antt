@@ -5,11 +5,12 @@ use Rattle.std.specs.List.{AllByRecursion, fold}
 use Rattle.std.proofs.lemmas.Int.{ints}
 use Rattle.std.proofs.lemmas.List.{append_assoc, length-append}
 use Rattle.std.proofs.lemmas.List.Sums.{fold-append}
-use Rattle.data_types.specs.promise.Parts.{joined_rows}
+use Rattle.data_types.specs.Parts.{joined_rows}
 use Rattle.data_types.specs.promise.Table.{Row}
 use Rattle.data_types.specs.promise.Value.{Whole}
 use Rattle.data_types.specs.declared.row_fault.RowFault.{RowFault}
-use Rattle.stage_model.specs.promise.Stages.{at_end, extreme, greater, lesser, numbers_at, totals_row, totals_values}
+use Rattle.stage_model.specs.promise.Stages.{at_end, extreme, totals_values}
+use Rattle.stage_model.specs.Stages.{greater, lesser, numbers_at, totals_row}
 use Rattle.total_stage.specs.Froms.{ahead_from, extreme_from, none_begun, row_from, totals_from, values_from}
 use Rattle.total_stage.specs.Sums.{AreSums, HaveBegun}
 use Rattle.total_stage.specs.Totals.{AreTotals, IsSmall, highest, lowest}

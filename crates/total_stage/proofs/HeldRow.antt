@@ -13,7 +13,7 @@ use Rattle.data_types.specs.promise.Value.{Value, Null}
 use Rattle.data_types.specs.declared.kind.ColumnType.{ColumnType}
 use Rattle.data_types.specs.declared.kind.DataType.{DataType}
 use Rattle.column_fill.proofs.ValuesTaken.{value-taken}
-use Rattle.stage_model.specs.promise.Stages.{totals_row}
+use Rattle.stage_model.specs.Stages.{totals_row}
 use Rattle.total_stage.specs.Rows.{RowFits, Takes, ValueFits}
 use Rattle.total_stage.specs.Sums.{AreSums}
 use Rattle.total_stage.specs.Totals.{number_value}

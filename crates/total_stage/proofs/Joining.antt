@@ -10,7 +10,8 @@ use Rattle.raw_array.specs.promise.Members.{ArrayTree}
 use Rattle.data_types.specs.promise.KindTrees.{KindTree}
 use Rattle.layout_rules.specs.promise.Values.{each, row_items}
 use Rattle.arr_import.specs.Window.{Window, item_at, whole}
-use Rattle.stage_model.specs.promise.Stages.{number_if, numbers_at}
+use Rattle.stage_model.specs.promise.Stages.{number_if}
+use Rattle.stage_model.specs.Stages.{numbers_at}
 use Rattle.total_stage.specs.Sums.{AreSums}
 use Rattle.total_stage.specs.Totals.{AreTotals}
 use Rattle.total_stage.specs.declared.numbers.Totals.{Totals}

@@ -13,7 +13,8 @@ use Rattle.array_laws.specs.Pieces.{border, joined_pieces}
 use Rattle.array_laws.proofs.WindowItems.{part-each}
 use Rattle.arr_import.specs.Window.{Window, item_at}
 use Rattle.column_fill.proofs.Counts.{count-is}
-use Rattle.stage_model.specs.promise.Stages.{number_if, numbers_at}
+use Rattle.stage_model.specs.promise.Stages.{number_if}
+use Rattle.stage_model.specs.Stages.{numbers_at}
 use Rattle.total_stage.specs.Sums.{AreParts, AreSums, CanSum, rows_between}
 use Rattle.total_stage.specs.Totals.{IsSmallItem, numbers_in}
 use Rattle.total_stage.specs.declared.numbers.Totals.{Totals}

@@ -5,7 +5,8 @@ use Rattle.std.specs.List.{AllByRecursion}
 use Rattle.std.proofs.lemmas.Grind.{flat_map-append}
 use Rattle.std.proofs.lemmas.List.{append-nil, append_assoc, get_or-map, length-map}
 use Rattle.data_types.specs.FieldText.{IsValueOf}
-use Rattle.data_types.specs.promise.Parts.{column_values, joined_rows}
+use Rattle.data_types.specs.promise.Parts.{column_values}
+use Rattle.data_types.specs.Parts.{joined_rows}
 use Rattle.data_types.specs.promise.Table.{Column, Flat, Row}
 use Rattle.data_types.specs.promise.Value.{Null}
 use Rattle.raw_array.specs.promise.Members.{ArrayTree, Cost}

@@ -16,7 +16,8 @@ use Rattle.data_types.specs.promise.Table.{Column, Kind, Flat}
 use Rattle.data_types.specs.promise.Value.{Value, Null, Truth, Whole, Bits, Bytes, Items, Fields, bytes_of}
 use Rattle.data_types.specs.declared.kind.DataType.{DataType}
 use Rattle.data_types.specs.declared.kind.DataType.TheVariants as kinds
-use Rattle.stage_model.specs.promise.Stages.{extreme, greater, lesser, number_if, sum_of}
+use Rattle.stage_model.specs.promise.Stages.{extreme, number_if}
+use Rattle.stage_model.specs.Stages.{greater, lesser, sum_of}
 use Rattle.stage_model.specs.promise.Typing.{column, is_summed, scale_of}
 use Rattle.total_stage.specs.Rows.{ValueFits}
 use Rattle.total_stage.specs.Totals.{IsSmall, IsSmallItem}

@@ -1,11 +1,12 @@
 -- What totals that have begun still come to.
 use Rattle.std.specs.Prelude.{◌+◌, ◌++◌, ◌∷◌, ℕ, zero, suc, ℤ, pos, ◌+ℤ◌, Bool, true, false, List, [], length, Option}
 use Rattle.std.specs.List.{fold}
-use Rattle.data_types.specs.promise.Parts.{joined_rows}
+use Rattle.data_types.specs.Parts.{joined_rows}
 use Rattle.data_types.specs.promise.Table.{Column, Row}
 use Rattle.data_types.specs.promise.Value.{Value, Whole}
 use Rattle.data_types.specs.declared.row_fault.RowFault.{RowFault}
-use Rattle.stage_model.specs.promise.Stages.{at_end, extreme, greater, lesser, numbers_at, totals_row}
+use Rattle.stage_model.specs.promise.Stages.{at_end, extreme}
+use Rattle.stage_model.specs.Stages.{greater, lesser, numbers_at, totals_row}
 use Rattle.stream_face.specs.Lawful.{LawfulTables}
 use Rattle.total_stage.specs.Sums.{HaveBegun}
 use Rattle.total_stage.specs.declared.numbers.Totals.{Totals}

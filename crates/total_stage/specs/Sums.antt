@@ -12,7 +12,7 @@ use Rattle.layout_rules.specs.promise.Values.{rows_of}
 use Rattle.layout_rules.specs.promise.Walk.{ChunkOk}
 use Rattle.arr_import.specs.Window.{IsStruct}
 use Rattle.fan_out.specs.Pieces.{GivesPieces}
-use Rattle.stage_model.specs.promise.Stages.{numbers_at}
+use Rattle.stage_model.specs.Stages.{numbers_at}
 use Rattle.total_stage.specs.Totals.{AreTotals, IsSmallItem}
 use Rattle.total_stage.specs.declared.numbers.Totals.{Totals}
 

@@ -6,7 +6,8 @@ use Rattle.layout_rules.specs.promise.Values.{each}
 use Rattle.arr_import.specs.Plain.{ShowsItems}
 use Rattle.arr_import.specs.Window.{Window, item_at}
 use Rattle.arr_import.specs.declared.plain.Plain.{Plain}
-use Rattle.stage_model.specs.promise.Stages.{greater, lesser, number_if, sum_of}
+use Rattle.stage_model.specs.promise.Stages.{number_if}
+use Rattle.stage_model.specs.Stages.{greater, lesser, sum_of}
 use Rattle.total_stage.specs.declared.numbers.Totals.{Totals}
 
 -- no number of a column that is totalled is larger in size

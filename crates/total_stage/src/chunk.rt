@@ -5,7 +5,7 @@ ghost use Rattle.data_types.specs.promise.Table.{Row};
 ghost use Rattle.unit_pass.specs.promise.Tally.{risen};
 ghost use Rattle.raw_array.specs.promise.Members.{Cost};
 ghost use Rattle.csv_read.specs.Chunks.{chunk_blocks, chunk_of};
-ghost use Rattle.stage_model.specs.promise.Stages.{totals_row};
+ghost use Rattle.stage_model.specs.Stages.{totals_row};
 ghost use Rattle.total_stage.specs.Rows.{RowFits};
 ghost use Rattle.total_stage.specs.Sums.{AreSums};
 

@@ -1,6 +1,6 @@
 //! The totals of numbers: how many there are, their sum, the least and the greatest.
 ghost use Rattle.std.specs.Prelude.{◌≡◌, ◌+◌, ◌<◌, ◌≤◌, ◌^◌, ◌++◌, ◌∷◌, [], ℤ, List, length};
-ghost use Rattle.stage_model.specs.promise.Stages.{greater as greater_of, lesser as lesser_of};
+ghost use Rattle.stage_model.specs.Stages.{greater as greater_of, lesser as lesser_of};
 
 /// The totals of the numbers so far.
 #[derive(Clone, Copy)]
@@ -14,7 +14,8 @@ pub(crate) struct Totals {
 }
 
 impl Totals {
-    ghost use Rattle.stage_model.specs.promise.Stages.{extreme, greater, lesser};
+    ghost use Rattle.stage_model.specs.promise.Stages.{extreme};
+    ghost use Rattle.stage_model.specs.Stages.{greater, lesser};
     ghost use Rattle.total_stage.specs.Totals.{AreTotals, IsSmall, number_value};
 
     /// The totals of no numbers.

@@ -5,7 +5,7 @@ ghost use Rattle.raw_schema.specs.promise.Members.{SchemaTree, members_of};
 ghost use Rattle.schema_check.specs.promise.SchemaAnswers.{FirstFault, MetaRefused, SchemaReads};
 ghost use Rattle.schema_check.specs.promise.Schemas.{MetaFits};
 ghost use Rattle.schema_meta.specs.declared.fault.MetaFault.{MetaFault as AMetaFault};
-ghost use Rattle.tree_text.specs.promise.TreeText.{SchemaFits};
+ghost use Rattle.tree_text.specs.TreeText.{SchemaFits};
 
 /// A law: a schema whose nodes lines can spell, on any level, has kinds or a first fault when it is checked as a root, and
 /// its metadata is in order or has a first fault.

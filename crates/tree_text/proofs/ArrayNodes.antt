@@ -14,8 +14,9 @@ use Rattle.raw_array.specs.Members.{cost_of_all, cost_of_maybe}
 use Rattle.raw_array.proofs.Buffers.{holds_of-count}
 use Rattle.tree_text.specs.declared.fault.TextFault.{TextFault}
 use Rattle.tree_text.specs.declared.cursor.Cursor.{Cursor}
-use Rattle.tree_text.specs.promise.TreeText.{array_node_lines, released_array, ArrayNodeFits, deepest_level, lines_of_all, array_line, lines_of, ArrayNumbers}
-use Rattle.tree_text.specs.promise.TreeText.{numbers_of, buffer_line, ArrayNumbersFit}
+use Rattle.tree_text.specs.promise.TreeText.{array_node_lines, ArrayNodeFits, deepest_level, lines_of_all, array_line, lines_of, ArrayNumbers}
+use Rattle.tree_text.specs.TreeText.{released_array, buffer_line}
+use Rattle.tree_text.specs.promise.TreeText.{numbers_of, ArrayNumbersFit}
 use Rattle.tree_text.specs.promise.Standing.{Place, AtArray, AtBuffer, read_array_line, next, array_parts}
 use Rattle.tree_text.specs.Cursors.{left, IsCursor, Stops, Between, ArrayRead, ArraysRead, LiveArrayRead, with_buffers, listed}
 use Rattle.tree_text.proofs.LineBack.{ArrayLineIs, array_back}

@@ -11,7 +11,8 @@ use Rattle.raw_array.specs.View.{buffer_of, buffer_if, buffers_of}
 use Rattle.raw_array.proofs.Buffers.{buffer_lists, buffers_of-append}
 use Rattle.tree_text.specs.declared.fault.TextFault.{TextFault}
 use Rattle.tree_text.specs.declared.cursor.Cursor.{Cursor}
-use Rattle.tree_text.specs.promise.TreeText.{buffer_line, BufferFits}
+use Rattle.tree_text.specs.promise.TreeText.{BufferFits}
+use Rattle.tree_text.specs.TreeText.{buffer_line}
 use Rattle.tree_text.specs.promise.Standing.{Place, AtBuffer, read_buffer_line, next, first_fault}
 use Rattle.tree_text.specs.Cursors.{left, IsCursor, StopsAt, Stops, Between, BufferLineRead, BufferRead, BuffersRead}
 use Rattle.tree_text.proofs.BufferLines.{buffer_read}

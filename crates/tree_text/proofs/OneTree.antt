@@ -10,10 +10,12 @@ use Rattle.raw_schema.specs.promise.Members.{SchemaMembers, SchemaTree}
 use Rattle.raw_array.specs.promise.Members.{Buffer, ArrayMembers, ArrayTree, bytes_in, whole}
 use Rattle.tree_text.specs.declared.fault.TextFault.{TextFault}
 use Rattle.tree_text.specs.declared.fault.TextFault.TheVariants.{Line, TooManyLines, NoMemory}
-use Rattle.tree_text.specs.promise.TreeText.{TreeIs, lines_of, lines_of_all, lines_of_maybe, dictionaries, TreeFits, AllFit, MaybeFits, schema_node_lines}
-use Rattle.tree_text.specs.promise.TreeText.{array_node_lines, released_schema, released_array, SchemaNodeFits, ArrayNodeFits, ArrayNumbers, numbers_of, schema_line}
-use Rattle.tree_text.specs.promise.TreeText.{array_line, buffer_line, BufferFits, AreBytesIf}
-use Rattle.tree_text.specs.promise.Standing.{AtFirst, AtSchema, AtArray, NodeLine, ReleasedLine, LiveLine, first_fault, all_places, read_schema_line}
+use Rattle.tree_text.specs.promise.TreeText.{TreeIs, lines_of, lines_of_all, lines_of_maybe, dictionaries, TreeFits, AllFit, MaybeFits}
+use Rattle.tree_text.specs.TreeText.{schema_node_lines, released_schema, released_array, buffer_line}
+use Rattle.tree_text.specs.promise.TreeText.{array_node_lines, SchemaNodeFits, ArrayNodeFits, ArrayNumbers, numbers_of, schema_line}
+use Rattle.tree_text.specs.promise.TreeText.{array_line, BufferFits, AreBytesIf}
+use Rattle.tree_text.specs.promise.Standing.{AtFirst, AtSchema, AtArray, NodeLine, ReleasedLine, LiveLine, first_fault, read_schema_line}
+use Rattle.tree_text.specs.Standing.{all_places}
 use Rattle.tree_text.specs.promise.Standing.{read_array_line, read_buffer_line}
 use Rattle.tree_text.specs.promise.Answers.{Reads}
 use Rattle.tree_text.specs.Answers.{Gives}

@@ -17,7 +17,8 @@ use Rattle.data_types.specs.promise.Ways.{Steps}
 use Rattle.layout_rules.specs.promise.Walk.{Visit, visits, walks_of, walk_children}
 use Rattle.layout_rules.specs.Walk.{nulls_in}
 use Rattle.data_types.proofs.Levels.{typed_out}
-use Rattle.tree_text.specs.promise.Report.{visits_text, visit_text, node_line}
+use Rattle.tree_text.specs.promise.Report.{visit_text}
+use Rattle.tree_text.specs.Report.{node_line, visits_text}
 use Rattle.tree_text.specs.Below.{children_visits, dictionary_visits}
 
 pub text-append : (xs ys : List Visit) → visits_text (xs ++ ys) ≡ visits_text xs ++ visits_text ys

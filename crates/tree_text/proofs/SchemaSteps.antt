@@ -12,7 +12,8 @@ use Rattle.tree_model.specs.promise.TreeCost.{no_holds, Nodes}
 use Rattle.raw_schema.specs.Members.{nodes_of_all, nodes_of_maybe}
 use Rattle.tree_text.specs.declared.fault.TextFault.{TextFault}
 use Rattle.tree_text.specs.declared.cursor.Cursor.{Cursor}
-use Rattle.tree_text.specs.promise.TreeText.{schema_node_lines, released_schema, SchemaNodeFits, deepest_level, lines_of_all, lines_of}
+use Rattle.tree_text.specs.promise.TreeText.{SchemaNodeFits, deepest_level, lines_of_all, lines_of}
+use Rattle.tree_text.specs.TreeText.{schema_node_lines, released_schema}
 use Rattle.tree_text.specs.promise.Standing.{AtSchema, read_schema_line, next, schema_parts}
 use Rattle.tree_text.specs.Cursors.{left, IsCursor, Stops, Between, SchemaRead, SchemasRead, LiveSchemaRead, listed}
 use Rattle.tree_text.proofs.LineBack.{SchemaLineIs}

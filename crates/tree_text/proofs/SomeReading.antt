@@ -15,11 +15,12 @@ use Rattle.raw_schema.specs.promise.Members.{SchemaMembers, SchemaTree}
 use Rattle.raw_array.specs.promise.Members.{Buffer, ArrayMembers, ArrayTree, whole}
 use Rattle.tree_text.specs.declared.fault.TextFault.{TextFault}
 use Rattle.tree_text.specs.declared.fault.TextFault.TheVariants.{Line, TooManyLines}
-use Rattle.tree_text.specs.promise.TreeText.{TreeIs, lines_of, lines_of_all, lines_of_maybe, dictionaries, TreeFits, AllFit, schema_node_lines, array_node_lines}
-use Rattle.tree_text.specs.promise.TreeText.{schema_lines, array_lines, released_schema, released_array}
-use Rattle.tree_text.specs.promise.TreeText.{SchemaNodeFits, ArrayNodeFits, ArrayNumbers, ArrayNumbersFit, numbers_of, array_line, buffer_line}
+use Rattle.tree_text.specs.promise.TreeText.{TreeIs, lines_of, lines_of_all, lines_of_maybe, dictionaries, TreeFits, AllFit, array_node_lines}
+use Rattle.tree_text.specs.TreeText.{schema_node_lines, schema_lines, array_lines, released_schema, released_array, buffer_line}
+use Rattle.tree_text.specs.promise.TreeText.{SchemaNodeFits, ArrayNodeFits, ArrayNumbers, ArrayNumbersFit, numbers_of, array_line}
 use Rattle.tree_text.specs.promise.TreeText.{BufferFits, deepest_level}
-use Rattle.tree_text.specs.promise.Standing.{Place, AtFirst, AtSchema, AtArray, AtBuffer, NodeLine, ReleasedLine, LiveLine, first_fault, all_places, next}
+use Rattle.tree_text.specs.promise.Standing.{Place, AtFirst, AtSchema, AtArray, AtBuffer, NodeLine, ReleasedLine, LiveLine, first_fault, next}
+use Rattle.tree_text.specs.Standing.{all_places}
 use Rattle.tree_text.specs.promise.Standing.{schema_parts, array_parts}
 use Rattle.tree_text.specs.promise.Standing.{read_schema_line, read_array_line, read_buffer_line}
 use Rattle.tree_text.specs.promise.Answers.{Reads, most_lines}

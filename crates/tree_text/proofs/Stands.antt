@@ -6,8 +6,9 @@ use Rattle.std.specs.Option.{option_map}
 use Rattle.std.proofs.lemmas.Bool.{le-leb}
 use Rattle.raw_schema.specs.promise.Members.{SchemaMembers}
 use Rattle.raw_array.specs.promise.Members.{Buffer, ArrayMembers, bytes_in, holds, holds_of}
-use Rattle.tree_text.specs.promise.TreeText.{schema_line, array_line, numbers_of, buffer_line, schema_node_lines, array_node_lines, released_schema}
-use Rattle.tree_text.specs.promise.TreeText.{released_array, SchemaNodeFits, ArrayNodeFits, BufferFits, AreBytesIf, deepest_level}
+use Rattle.tree_text.specs.promise.TreeText.{schema_line, array_line, numbers_of, array_node_lines}
+use Rattle.tree_text.specs.TreeText.{schema_node_lines, buffer_line, released_schema, released_array}
+use Rattle.tree_text.specs.promise.TreeText.{SchemaNodeFits, ArrayNodeFits, BufferFits, AreBytesIf, deepest_level}
 use Rattle.tree_text.specs.promise.Standing.{Place, AtSchema, AtArray, AtBuffer, next, first_fault, fault_or, schema_parts}
 use Rattle.tree_text.specs.promise.Standing.{array_parts}
 use Rattle.tree_text.proofs.LineBack.{schema_back, array_back}

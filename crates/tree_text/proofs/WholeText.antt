@@ -10,8 +10,10 @@ use Rattle.raw_array.specs.promise.Members.{ArrayTree}
 use Rattle.tree_text.specs.declared.fault.TextFault.{TextFault}
 use Rattle.tree_text.specs.declared.fault.TextFault.TheVariants.{Line, TooManyLines, NoMemory}
 use Rattle.tree_text.specs.declared.cursor.Cursor.{Cursor}
-use Rattle.tree_text.specs.promise.TreeText.{lines_of, schema_node_lines, array_node_lines, released_schema, released_array, SchemaNodeFits, ArrayNodeFits}
-use Rattle.tree_text.specs.promise.Standing.{AtFirst, AtSchema, AtArray, first_fault, next, all_places}
+use Rattle.tree_text.specs.promise.TreeText.{lines_of, array_node_lines, SchemaNodeFits, ArrayNodeFits}
+use Rattle.tree_text.specs.TreeText.{schema_node_lines, released_schema, released_array}
+use Rattle.tree_text.specs.promise.Standing.{AtFirst, AtSchema, AtArray, first_fault, next}
+use Rattle.tree_text.specs.Standing.{all_places}
 use Rattle.tree_text.specs.promise.Answers.{Reads, most_lines}
 use Rattle.tree_text.specs.Cursors.{left, IsCursor, StopsAt, Stops, StopsLast, Between, SchemaRead, ArrayRead, TreesRead}
 use Rattle.tree_text.proofs.Stands.{stands, schema_gone, schema_stands, array_gone, array_stands}

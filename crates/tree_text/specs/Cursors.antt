@@ -10,8 +10,9 @@ use Rattle.tree_text.specs.declared.fault.TextFault.{TextFault}
 use Rattle.tree_text.specs.declared.fault.TextFault.TheVariants.{Line, TooManyLines, NoMemory}
 use Rattle.tree_text.specs.declared.cursor.Cursor.{Cursor}
 use Rattle.tree_text.specs.promise.Answers.{most_lines}
-use Rattle.tree_text.specs.promise.TreeText.{lines_of, lines_of_all, TreeFits, AllFit, schema_node_lines, array_node_lines, released_schema, released_array}
-use Rattle.tree_text.specs.promise.TreeText.{deepest_level, SchemaNodeFits, ArrayNodeFits, ArrayNumbers, buffer_line, BufferFits}
+use Rattle.tree_text.specs.promise.TreeText.{lines_of, lines_of_all, TreeFits, AllFit, array_node_lines}
+use Rattle.tree_text.specs.TreeText.{schema_node_lines, released_schema, released_array, buffer_line}
+use Rattle.tree_text.specs.promise.TreeText.{deepest_level, SchemaNodeFits, ArrayNodeFits, ArrayNumbers, BufferFits}
 use Rattle.tree_text.specs.promise.Standing.{Place, first_fault, NodeLine, read_schema_line, read_array_line, read_buffer_line}
 
 -- the lines from a cursor on

@@ -9,7 +9,7 @@ ghost use Rattle.tree_model.specs.promise.TreeCost.{Nodes};
 ghost use Rattle.raw_array.specs.promise.Members.{ArrayTree, Cost, holds};
 ghost use Rattle.tree_text.specs.declared.fault.TextFault.{TextFault as AFault};
 ghost use Rattle.tree_text.specs.declared.fault.TextFault.TheVariants.{NoMemory as NoMemoryFault};
-ghost use Rattle.tree_text.specs.promise.TreeText.{schema_lines, array_lines, SchemaFits, ArrayFits};
+ghost use Rattle.tree_text.specs.TreeText.{schema_lines, array_lines, SchemaFits, ArrayFits};
 ghost use Rattle.tree_text.specs.promise.Standing.{AtFirst, AtSchema, AtArray};
 ghost use Rattle.tree_text.specs.promise.Answers.{most_lines, Reads};
 ghost use Rattle.tree_text.specs.Answers.{Gives};

@@ -2,7 +2,7 @@
 ghost use Rattle.std.specs.Prelude.{◌≡◌, ◌∷◌, ◌++◌, Some, IfOk};
 ghost use Rattle.std.specs.Fmt.{signed_decimal};
 ghost use Rattle.tree_text.specs.promise.TreeText.{byte_text, token};
-ghost use Rattle.tree_text.specs.promise.Report.{report_line};
+ghost use Rattle.tree_text.specs.Report.{report_line};
 ghost use Rattle.data_types.specs.promise.WayTexts.{way_text};
 ghost use Rattle.data_types.specs.promise.Ways.{steps_of};
 

@@ -14,7 +14,8 @@ ghost use Rattle.data_types.specs.TypedView.{dict_in};
 ghost use Rattle.layout_check.specs.NodeView.{live_node};
 ghost use Rattle.data_types.specs.promise.Ways.{steps_of};
 ghost use Rattle.layout_rules.specs.promise.Walk.{LayoutOk, visits};
-ghost use Rattle.tree_text.specs.promise.Report.{node_line, visits_text, ReportOf};
+ghost use Rattle.tree_text.specs.promise.Report.{ReportOf};
+ghost use Rattle.tree_text.specs.Report.{node_line, visits_text};
 ghost use Rattle.tree_text.specs.Below.{children_visits, dictionary_visits};
 
 use crate::report_text::push_line;

@@ -4,7 +4,8 @@ use Rattle.raw_array.specs.promise.Members.{ArrayMembers, ArrayTree, Buffer, Cos
 use Rattle.tree_model.specs.promise.TreeCost.{Nodes, no_holds}
 use Rattle.raw_schema.specs.promise.Members.{SchemaTree}
 use Rattle.tree_text.specs.promise.Answers.{Reads, most_lines}
-use Rattle.tree_text.specs.promise.TreeText.{array_lines, array_node_lines, buffer_line, released_array, released_schema, schema_lines, schema_node_lines}
+use Rattle.tree_text.specs.promise.TreeText.{array_node_lines}
+use Rattle.tree_text.specs.TreeText.{schema_node_lines, array_lines, buffer_line, released_array, released_schema, schema_lines}
 use Rattle.tree_text.proofs.TreeLaws.{cost_le_lines}
 use Rattle.unit_pass.specs.declared.pass.TheConstants.{CHUNK, ROOM}
 

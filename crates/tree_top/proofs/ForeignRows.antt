@@ -16,7 +16,8 @@ use Rattle.layout_rules.specs.Found.{fault_of}
 use Rattle.layout_rules.specs.Lawful.{ChunkHolds}
 use Rattle.layout_rules.specs.promise.Layout.{is_valid, items}
 use Rattle.layout_rules.specs.promise.Rules.{null_total}
-use Rattle.layout_rules.specs.promise.Values.{each, item, readers, row_items, rows_of, value_at, values_of}
+use Rattle.layout_rules.specs.promise.Values.{each, readers, row_items, rows_of, value_at, values_of}
+use Rattle.layout_rules.specs.Values.{item}
 use Rattle.layout_rules.specs.promise.Walk.{ChunkOk, Fault as ArrayFault, LayoutOk, first_chunk_fault, first_fault, top_fault}
 use Rattle.layout_rules.specs.declared.rule.LayoutFault.{LayoutFault}
 use Rattle.raw_array.specs.promise.Members.{ArrayMembers, ArrayTree}

@@ -6,7 +6,7 @@ use Rattle.raw_schema.specs.promise.Members.{SchemaTree}
 use Rattle.schema_check.specs.promise.SchemaAnswers.{FirstFault, SchemaReads}
 use Rattle.tree_text.specs.promise.Answers.{Reads}
 use Rattle.tree_text.specs.declared.fault.TextFault.{TextFault}
-use Rattle.tree_text.specs.promise.TreeText.{SchemaFits}
+use Rattle.tree_text.specs.TreeText.{SchemaFits}
 use Rattle.union_cols.specs.promise.UnionSchemas.{SchemaFound, UnionReads}
 use Rattle.union_cols.specs.promise.Unions.{UnionTree}
 use Rattle.tree_top.specs.promise.TextOrFault.{Answer, Fault}

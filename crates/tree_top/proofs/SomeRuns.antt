@@ -18,7 +18,7 @@ use Rattle.run_ends.specs.promise.Runs.{IsEnds, RunTree}
 use Rattle.schema_check.specs.promise.Schemas.{TypedOf}
 use Rattle.tree_model.specs.promise.TreeData.{Released, Live, Trees, MaybeTree, absent}
 use Rattle.tree_model.specs.promise.TreeParts.{children_of, dictionary_of}
-use Rattle.tree_text.specs.promise.TreeText.{SchemaFits}
+use Rattle.tree_text.specs.TreeText.{SchemaFits}
 use Rattle.tree_top.proofs.SomeUnion.{Kids, SomeKinds, SomeMetadata, own-parts, some-kids}
 
 -- ---- what is decided

@@ -13,7 +13,8 @@ use Rattle.schema_check.specs.promise.Schemas.{MetaFits}
 use Rattle.schema_meta.specs.declared.fault.MetaFault.{MetaFault}
 use Rattle.tree_model.specs.promise.TreeData.{Released, Live, Trees, no_trees, more_trees, MaybeTree, tree_list}
 use Rattle.tree_model.specs.promise.TreeParts.{children_of, dictionary_of}
-use Rattle.tree_text.specs.promise.TreeText.{AllFit, SchemaFits, SchemaNodeFits}
+use Rattle.tree_text.specs.promise.TreeText.{AllFit, SchemaNodeFits}
+use Rattle.tree_text.specs.TreeText.{SchemaFits}
 use Rattle.union_cols.specs.promise.UnionFormats.{UnionFormat}
 use Rattle.union_cols.specs.UnionFormats.{FormatReads}
 use Rattle.union_cols.specs.promise.UnionSchemas.{IsPlainUnion, IsReleased, IsUnion, SchemaFound, UnionReads}

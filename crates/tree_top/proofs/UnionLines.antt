@@ -4,7 +4,7 @@ use Rattle.std.proofs.lemmas.Grind.{flat_map-append}
 use Rattle.std.proofs.lemmas.List.{map-append}
 use Rattle.std.specs.List.{flat_map}
 use Rattle.layout_rules.specs.promise.Values.{each}
-use Rattle.data_types.specs.promise.NumberedTexts.{numbered_line}
+use Rattle.data_types.specs.NumberedTexts.{numbered_line}
 use Rattle.value_text.proofs.Parts.{each-more}
 use Rattle.union_cols.specs.promise.Unions.{UnionItem}
 use Rattle.tree_top.specs.promise.UnionAnswer.{numbered_item}

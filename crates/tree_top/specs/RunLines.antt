@@ -6,7 +6,7 @@ use Rattle.layout_rules.specs.promise.Layout.{items}
 use Rattle.raw_array.specs.promise.Members.{ArrayTree, members_of}
 use Rattle.run_ends.specs.promise.RunCoding.{runs_from}
 use Rattle.run_ends.specs.promise.Runs.{RunTree, run_of}
-use Rattle.data_types.specs.promise.NumberedTexts.{numbered_line}
+use Rattle.data_types.specs.NumberedTexts.{numbered_line}
 use Rattle.tree_top.specs.promise.RunsAnswer.{numbered_run}
 
 -- those of the runs from an item on

@@ -9,7 +9,7 @@ ghost use Rattle.layout_rules.specs.promise.Values.{tree_items, values_of};
 ghost use Rattle.layout_rules.specs.promise.Walk.{LayoutOk};
 ghost use Rattle.run_ends.specs.ColumnRuns.{values_in};
 ghost use Rattle.run_ends.specs.RunCoding.{IsRun};
-ghost use Rattle.data_types.specs.promise.NumberedTexts.{numbered_line};
+ghost use Rattle.data_types.specs.NumberedTexts.{numbered_line};
 ghost use Rattle.tree_top.specs.RunLines.{run_lines};
 ghost use Rattle.tree_top.specs.promise.RunsAnswer.{RunsAnswer, runs_of_column, runs_text};
 ghost use Rattle.tree_top.specs.promise.TextOrFault.{Fault, Text};

@@ -8,7 +8,7 @@ ghost use Rattle.union_cols.specs.UnionAnswers.{union_of};
 ghost use Rattle.union_cols.specs.UnionRules.{UnionOk};
 ghost use Rattle.union_cols.specs.promise.Unions.{union_item, union_items};
 ghost use Rattle.union_cols.specs.Unions.{UnionTypedOk};
-ghost use Rattle.data_types.specs.promise.NumberedTexts.{numbered_line};
+ghost use Rattle.data_types.specs.NumberedTexts.{numbered_line};
 ghost use Rattle.tree_top.specs.promise.TextOrFault.{Fault, Text};
 ghost use Rattle.tree_top.specs.promise.UnionAnswer.{UnionAnswer, items_text, numbered_item};
 

@@ -8,7 +8,7 @@ ghost use Rattle.union_cols.specs.UnionRules.{UnionOk};
 ghost use Rattle.union_cols.specs.promise.Unions.{union_item, union_items, union_value};
 ghost use Rattle.union_cols.specs.Unions.{UnionTypedOk};
 ghost use Rattle.value_text.specs.Lengths.{TellsKids, capped, text_length};
-ghost use Rattle.data_types.specs.promise.NumberedTexts.{numbered_line};
+ghost use Rattle.data_types.specs.NumberedTexts.{numbered_line};
 ghost use Rattle.tree_top.specs.promise.UnionAnswer.{items_text, numbered_item};
 
 use crate::union::count_items;

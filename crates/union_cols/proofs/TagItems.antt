@@ -13,7 +13,7 @@ use Rattle.tree_model.specs.promise.TreeParts.{IsLive}
 use Rattle.raw_array.specs.promise.Members.{ArrayMembers, ArrayTree}
 use Rattle.raw_array.specs.Members.{windowed}
 use Rattle.raw_array.specs.Windows.{FitsWindow, Window, is_whole}
-use Rattle.data_types.specs.promise.ColumnKinds.{table_type}
+use Rattle.data_types.specs.ColumnKinds.{table_type}
 use Rattle.data_types.specs.promise.KindTrees.{KindTree}
 use Rattle.layout_rules.specs.promise.Layout.{first, items}
 use Rattle.layout_rules.specs.promise.Rules.{live_length}

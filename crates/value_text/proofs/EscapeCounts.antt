@@ -5,7 +5,8 @@ use Rattle.std.specs.Prelude.{if◌then◌else◌}
 use Rattle.std.proofs.lemmas.List.{get_or_append_left, length-drop, length-take-le, take_more}
 use Rattle.std.proofs.lemmas.Bool.{cases_eq}
 use Rattle.std.proofs.Math.Seq.{get_or-append_seam, take-add}
-use Rattle.data_types.specs.promise.ValueTexts.{bytes_text, byte_text, is_plain, value_text}
+use Rattle.data_types.specs.promise.ValueTexts.{byte_text, is_plain, value_text}
+use Rattle.data_types.specs.ValueTexts.{bytes_text}
 use Rattle.data_types.specs.promise.Value.{Bytes}
 use Rattle.value_text.specs.Escapes.{CountsEscapes, escapes}
 use Rattle.value_text.specs.Lengths.{capped, text_length}

@@ -8,7 +8,8 @@ use Rattle.unit_pass.specs.declared.no_memory.NoMemory.{NoMemory}
 use Rattle.data_types.specs.promise.Value.{Value, values, Null}
 use Rattle.layout_rules.specs.promise.Values.{each}
 use Rattle.value_text.specs.Behind.{item_text}
-use Rattle.data_types.specs.promise.ValueTexts.{joined, value_line, value_text, value_texts}
+use Rattle.data_types.specs.promise.ValueTexts.{value_line, value_text, value_texts}
+use Rattle.data_types.specs.ValueTexts.{joined}
 
 -- the joined texts of values
 abbrev pub parts : List Value → List ℕ

@@ -1,7 +1,8 @@
 -- Bytes that all stand for themselves.
 use Rattle.std.proofs.Common.{◌≡◌, ◌∙◌, ℕ, Bool, true, false, ◌&&◌, List, [], ◌∷◌, ◌++◌, ap, refl}
 use Rattle.std.specs.List.{list_all}
-use Rattle.data_types.specs.promise.ValueTexts.{byte_text, bytes_text, is_plain}
+use Rattle.data_types.specs.promise.ValueTexts.{byte_text, is_plain}
+use Rattle.data_types.specs.ValueTexts.{bytes_text}
 
 plain-byte : (byte : ℕ) (rest : List ℕ) → is_plain byte ≡ true → byte_text byte ++ rest ≡ byte ∷ rest
 plain-byte byte rest plain = rw plain

@@ -2,7 +2,8 @@
 ghost use Rattle.std.specs.Prelude.{◌≡◌, ◌++◌, ◌<◌, ◌∷◌, [], ◌/◌, ◌%◌, true, OnOk};
 ghost use Rattle.std.specs.Fmt.{digit_glyph};
 ghost use Rattle.std.specs.List.{list_all};
-ghost use Rattle.data_types.specs.promise.ValueTexts.{byte_text, bytes_text, is_plain};
+ghost use Rattle.data_types.specs.promise.ValueTexts.{byte_text, is_plain};
+ghost use Rattle.data_types.specs.ValueTexts.{bytes_text};
 
 use crate::bounded::BoundedText;
 use unit_pass::NoMemory;

@@ -5,7 +5,8 @@ ghost use Rattle.data_types.specs.promise.Value.Value.{Bits, Bytes, Fields, Item
 ghost use Rattle.layout_rules.specs.promise.Values.{each};
 ghost use Rattle.value_text.specs.Behind.{item_text};
 ghost use Rattle.value_text.specs.Lengths.{AreFieldLengths, AreLengths, AreSums, Tells, AreReached, IsReached, capped, some_fields, text_length};
-ghost use Rattle.data_types.specs.promise.ValueTexts.{byte_text, bytes_text, lines_text};
+ghost use Rattle.data_types.specs.promise.ValueTexts.{byte_text, lines_text};
+ghost use Rattle.data_types.specs.ValueTexts.{bytes_text};
 
 use crate::escapes::is_plain;
 use field_codec::{bits_text, whole_text};

@@ -2,7 +2,7 @@
 ghost use Rattle.std.specs.Prelude.{◌≡◌, ◌<◌, ◌++◌, ◌^◌, OnOk, decimal};
 ghost use Rattle.arr_import.specs.Cols.{window_of};
 ghost use Rattle.arr_import.specs.Window.{item_at};
-ghost use Rattle.data_types.specs.promise.NumberedTexts.{numbered_line};
+ghost use Rattle.data_types.specs.NumberedTexts.{numbered_line};
 
 use crate::bounded::BoundedText;
 use crate::value::push_value;

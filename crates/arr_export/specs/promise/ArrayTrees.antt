@@ -38,8 +38,6 @@ column_tree kind values dictionary = Live (column_members kind values) no_trees 
 -- ---- a table
 
 -- a struct with as many items as there are rows, none of them null
-abbrev pub table_members : ℕ → ArrayMembers
-table_members rows = record { length = pos rows; null_count = pos 0; offset = pos 0; buffers = None ∷ []; kind = Assembled }
-
 abbrev pub table_tree : ℕ → List ArrayTree → ArrayTree
-table_tree rows columns = Live (table_members rows) (trees columns) absent
+table_tree rows columns =
+    Live (record { length = pos rows; null_count = pos 0; offset = pos 0; buffers = None ∷ []; kind = Assembled }) (trees columns) absent

@@ -47,9 +47,6 @@ abbrev pub ends : ℕ → List (List ℕ) → List ℕ
 ends at [] = at ∷ []
 ends at (item ∷ items) = at ∷ ends (at + length item) items
 
-abbrev pub offset_bytes : Bool → List (List ℕ) → List ℕ
-offset_bytes wide items = flat_map (le_bytes (offset_width wide)) (ends 0 items)
-
 -- ---- a column
 
 pub record Encoded : Type 0 where
@@ -71,7 +68,7 @@ in_place width values = validity_of values ∷ if_some (flat_map (stored_item wi
 
 -- an offsets buffer is always there
 abbrev pub by_offsets : Bool → List Value → List (Option (List ℕ))
-by_offsets wide values = validity_of values ∷ Some (offset_bytes wide (map bytes_of values)) ∷ if_some (concat (map bytes_of values)) ∷ []
+by_offsets wide values = validity_of values ∷ Some (flat_map (le_bytes (offset_width wide)) (ends 0 (map bytes_of values))) ∷ if_some (concat (map bytes_of values)) ∷ []
 
 -- offsets of 64 bits
 abbrev pub is_wide : DataType → Bool

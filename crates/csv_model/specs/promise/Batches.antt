@@ -20,10 +20,6 @@ cut batch room (row ∷ rows) = if room == 1 then (row ∷ []) ∷ cut batch bat
 abbrev pub in_batches : ℕ → List Row → List (List Row)
 in_batches batch rows = cut batch batch rows
 
--- those of full size
-abbrev pub whole_batches : ℕ → List Row → List (List Row)
-whole_batches batch rows = filter (λ part. length part == batch) (in_batches batch rows)
-
 -- ---- reading
 
 abbrev pub row_before : Result Row RowFault → List Row → List Row
@@ -38,7 +34,7 @@ rows_before mark number columns (fields ∷ records) = row_before (row_of mark n
 -- all rows in batches; or, where a record spells no row, the full batches before the batch of that record
 abbrev pub batches_if : Result (List Row) RowFault → ℕ → List Row → Chunks
 batches_if (Ok rows) batch before = record { chunks = in_batches batch rows; ending = None }
-batches_if (Err fault) batch before = record { chunks = whole_batches batch before; ending = Some fault }
+batches_if (Err fault) batch before = record { chunks = filter (λ part. length part == batch) (in_batches batch before); ending = Some fault }
 
 -- the rows of these records
 abbrev pub batches_in : List ℕ → List Column → List Record → ℕ → Chunks

@@ -24,10 +24,6 @@ is_among names name = list_any (λ n. bytes_eq name n) names
 
 -- ---- places, from 0
 
--- the first field that isn't UTF-8
-abbrev pub first_not_text : Record → Option ℕ
-first_not_text fields = position (λ field. not (is_utf8 field)) fields
-
 -- the first field that is one of those before it
 abbrev pub twice_behind : List (List ℕ) → Record → Option ℕ
 twice_behind before [] = None
@@ -36,10 +32,6 @@ twice_behind before (field ∷ fields) = if is_among before field then Some (len
 abbrev pub first_twice : Record → Option ℕ
 first_twice fields = twice_behind [] fields
 
--- the first entry whose name is no field
-abbrev pub first_unknown : List Entry → Record → Option ℕ
-first_unknown entries fields = position (λ e. not (is_among fields e.name)) entries
-
 -- ---- the fault, whose columns and entries are numbered from 1
 
 -- the fault at a place, where there is one, and else the next one
@@ -47,18 +39,15 @@ abbrev pub fault_at : Option ℕ → (ℕ → HeaderFault) → Option HeaderFaul
 fault_at None fault next = next
 fault_at (Some place) fault next = Some (fault (place + 1))
 
-abbrev pub unknown_fault : List Entry → Record → Option HeaderFault
-unknown_fault entries fields = fault_at (first_unknown entries fields) (λ n. faults.Unknown n) None
-
-abbrev pub twice_fault : List Entry → Record → Option HeaderFault
-twice_fault entries fields = fault_at (first_twice fields) (λ n. faults.Twice n) (unknown_fault entries fields)
-
-abbrev pub names_fault : List Entry → Record → Option HeaderFault
-names_fault entries fields = fault_at (first_not_text fields) (λ n. faults.NotText n) (twice_fault entries fields)
-
--- the first fault of a header's fields: too many, one that isn't text, one that is there twice, an entry of no field
+-- the first fault of a header's fields: too many, one that isn't UTF-8, one that is there twice, an entry whose name is no
+-- field
 abbrev pub header_fault : List Entry → Record → Option HeaderFault
-header_fault entries fields = if nat_le (length fields) most_columns then names_fault entries fields else Some (faults.TooManyColumns (length fields))
+header_fault entries fields =
+    if nat_le (length fields) most_columns then
+    fault_at (position (λ field. not (is_utf8 field)) fields) (λ n. faults.NotText n)
+    (fault_at (first_twice fields) (λ n. faults.Twice n)
+    (fault_at (position (λ e. not (is_among fields e.name)) entries) (λ n. faults.Unknown n) None))
+    else Some (faults.TooManyColumns (length fields))
 
 -- ---- the columns
 
@@ -70,12 +59,6 @@ kind_or_text (Some e) = e.kind
 abbrev pub type_for : List Entry → List ℕ → DataType
 type_for entries name = kind_or_text (find (λ e. bytes_eq e.name name) entries)
 
-abbrev pub column_for : List Entry → List ℕ → Column
-column_for entries name = record { name = name; kind = Flat (type_for entries name) }
-
-abbrev pub header_columns : List Entry → Record → List Column
-header_columns entries fields = map (column_for entries) fields
-
 abbrev pub columns_unless : Option HeaderFault → List Column → Result (List Column) HeaderFault
 columns_unless None columns = Ok columns
 columns_unless (Some fault) columns = Err fault
@@ -83,4 +66,4 @@ columns_unless (Some fault) columns = Err fault
 -- the columns of a text's records, or the fault of its header, which is the first record
 abbrev pub header_of : List Entry → List Record → Result (List Column) HeaderFault
 header_of entries [] = Err faults.NoHeader
-header_of entries (fields ∷ records) = columns_unless (header_fault entries fields) (header_columns entries fields)
+header_of entries (fields ∷ records) = columns_unless (header_fault entries fields) (map (λ name. record { name = name; kind = Flat (type_for entries name) }) fields)

@@ -11,11 +11,7 @@ abbrev pub row_fields : List ℕ → List Column → Row → List (List ℕ)
 row_fields mark (c ∷ cs) (value ∷ values) = written_field mark c.kind value ∷ row_fields mark cs values
 row_fields mark _ _ = []
 
-abbrev pub header_text : List Column → List ℕ
-header_text columns = row_text default_writer (map (λ c. c.name) columns)
-
-abbrev pub rows_text : List ℕ → List Column → List Row → List ℕ
-rows_text mark columns rows = concat (map (λ values. row_text default_writer (row_fields mark columns values)) rows)
-
 abbrev pub table_text : List ℕ → Table → List ℕ
-table_text mark table = header_text table.columns ++ rows_text mark table.columns table.rows
+table_text mark table =
+    row_text default_writer (map (λ c. c.name) table.columns)
+    ++ concat (map (λ values. row_text default_writer (row_fields mark table.columns values)) table.rows)

@@ -6,10 +6,6 @@ use Rattle.data_types.specs.declared.kind.DataType.TheVariants as kinds
 use Rattle.tree_model.specs.promise.TreeData.{Live, Trees, no_trees, more_trees, trees, absent, present}
 use Rattle.data_types.specs.promise.KindTrees.{KindTree}
 
--- a struct of columns of these types
-abbrev pub table_type : List KindTree → KindTree
-table_type types = Live kinds.Struct (trees types) absent
-
 abbrev mutual
   -- values of a type; indices of 32 bits into a dictionary of values; or a struct of columns
   pub type_of_kind : Kind → KindTree
@@ -21,12 +17,6 @@ abbrev mutual
   types_of_members no_members = no_trees
   types_of_members (more_members name kind rest) = more_trees (type_of_kind kind) (types_of_members rest)
 
-abbrev pub type_of_column : Column → KindTree
-type_of_column column = type_of_kind column.kind
-
-abbrev pub types_of_columns : List Column → List KindTree
-types_of_columns columns = map type_of_column columns
-
--- the type of a table of these columns
+-- the type of a table of these columns, a struct
 abbrev pub type_of_columns : List Column → KindTree
-type_of_columns columns = table_type (types_of_columns columns)
+type_of_columns columns = Live kinds.Struct (trees (map (λ column. type_of_kind column.kind) columns)) absent

@@ -60,13 +60,10 @@ form_of type = stored_form (storage_of type)
 
 -- ---- reading
 
-abbrev pub is_one_of : List (List ℕ) → List ℕ → Bool
-is_one_of words text = list_any (bytes_eq text) words
-
 abbrev pub read_truth : List ℕ → Option Value
 read_truth text =
-    if is_one_of (codes "true" ∷ codes "True" ∷ codes "TRUE" ∷ []) text then Some (Truth true)
-    else if is_one_of (codes "false" ∷ codes "False" ∷ codes "FALSE" ∷ []) text then Some (Truth false)
+    if list_any (bytes_eq text) (codes "true" ∷ codes "True" ∷ codes "TRUE" ∷ []) then Some (Truth true)
+    else if list_any (bytes_eq text) (codes "false" ∷ codes "False" ∷ codes "FALSE" ∷ []) then Some (Truth false)
     else None
 
 -- at least one decimal digit, and nothing else
@@ -84,10 +81,6 @@ in_range bits false (negsuc n) = false
 abbrev pub read_whole : ℕ → Bool → List ℕ → Option Value
 read_whole bits signed text =
     if is_numeral (without_leading_sign text) && in_range bits signed (signed_digits_value 10 text) then Some (Whole (signed_digits_value 10 text)) else None
-
--- exactly this many hexadecimal digits, most significant first
-abbrev pub read_bits : ℕ → List ℕ → Option Value
-read_bits digits text = if (length text == digits) && list_all is_ascii_hexdigit text then Some (Bits (digits_value 16 text)) else None
 
 -- the bytes that pairs of hexadecimal digits write
 abbrev pub hex_bytes : List ℕ → Option (List ℕ)
@@ -121,7 +114,9 @@ read_decimal precision places text =
 abbrev pub read_form : Form → List ℕ → Option Value
 read_form Truths text = read_truth text
 read_form (Wholes bits signed) text = read_whole bits signed text
-read_form (FloatBits bits) text = read_bits (bits / 4) text
+-- exactly as many hexadecimal digits as the bits fill, most significant first
+read_form (FloatBits bits) text =
+    if (length text == bits / 4) && list_all is_ascii_hexdigit text then Some (Bits (digits_value 16 text)) else None
 read_form Text text = if is_utf8 text then Some (Bytes text) else None
 read_form HexBytes text = option_map Bytes (hex_bytes text)
 read_form (SizedHex size) text = if length text == 2 * size then option_map Bytes (hex_bytes text) else None

@@ -4,10 +4,6 @@ use Rattle.std.specs.List.{flat_map}
 use Rattle.data_types.specs.promise.Value.{Value}
 use Rattle.data_types.specs.promise.ValueTexts.{value_line}
 
--- the number in decimal, a space, and the value's line
-abbrev pub numbered_line : ℕ × Value → List ℕ
-numbered_line item = decimal item.0 ++ (codes " " ++ value_line item.1)
-
--- `ok`, and a line for each value with its number
+-- `ok`, and a line for each value: its number in decimal, a space, and its line
 abbrev pub numbered_text : List (ℕ × Value) → List ℕ
-numbered_text items = codes "ok\n" ++ flat_map numbered_line items
+numbered_text items = codes "ok\n" ++ flat_map (λ (item : ℕ × Value). decimal item.0 ++ (codes " " ++ value_line item.1)) items

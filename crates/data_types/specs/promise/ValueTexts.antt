@@ -16,14 +16,7 @@ is_plain byte = is_in_range 33 126 byte && not (byte == 37) && not (byte == 44) 
 abbrev pub byte_text : ℕ → List ℕ
 byte_text byte = if is_plain byte then byte ∷ [] else 37 ∷ digit_glyph true (byte / 16) ∷ digit_glyph true (byte % 16) ∷ []
 
-abbrev pub bytes_text : List ℕ → List ℕ
-bytes_text bytes = flat_map byte_text bytes
-
 -- ---- a value
-
--- the texts of values with a comma between each two
-abbrev pub joined : List (List ℕ) → List ℕ
-joined texts = join_with_byte 44 texts
 
 -- Null is `~`; a whole number is decimal; the bits of a float are `x` and 16 lower-case hexadecimal digits; bytes follow
 -- `=`; the items of a list are in brackets and the fields of a struct in braces, with commas between them.
@@ -33,9 +26,9 @@ abbrev mutual
   value_text (Truth truth) = if truth then codes "true" else codes "false"
   value_text (Whole number) = signed_decimal number
   value_text (Bits bits) = codes "x" ++ last_digits 16 16 bits
-  value_text (Bytes bytes) = codes "=" ++ bytes_text bytes
-  value_text (Items items) = codes "[" ++ joined (value_texts items) ++ codes "]"
-  value_text (Fields fields) = codes "{" ++ joined (value_texts fields) ++ codes "}"
+  value_text (Bytes bytes) = codes "=" ++ flat_map byte_text bytes
+  value_text (Items items) = codes "[" ++ join_with_byte 44 (value_texts items) ++ codes "]"
+  value_text (Fields fields) = codes "{" ++ join_with_byte 44 (value_texts fields) ++ codes "}"
 
   pub value_texts : Values → List (List ℕ)
   value_texts no_values = []

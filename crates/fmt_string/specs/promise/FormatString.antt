@@ -28,12 +28,6 @@ IsSigned text (negsuc n) = (digits : List ℕ) × (text ≡ 45 ∷ digits) × Is
 abbrev pub comma : List ℕ
 comma = 44 ∷ []
 
-abbrev pub IsSomeNumber : List ℕ → Type 0
-IsSomeNumber text = (n : ℕ) × IsNumber text n
-
-abbrev pub IsSomeSigned : List ℕ → Type 0
-IsSomeSigned text = (n : ℤ) × IsSigned text n
-
 -- ---- the text behind a keyword
 
 -- the texts of a decimal's numbers; that of the width has its comma
@@ -45,14 +39,11 @@ pub record Parts : Type 0 where
 abbrev pub parts_text : Parts → List ℕ
 parts_text parts = parts.precision ++ comma ++ parts.scale ++ parts.width
 
--- the text of a width, with its comma; a width of 128 bits may be left out
-abbrev pub IsWidth : List ℕ → ℕ → Type 0
-IsWidth text width = ((text ≡ []) × (width ≡ 128)) ⊎ ((digits : List ℕ) × (text ≡ comma ++ digits) × IsNumber digits width)
-
 pub record PartsAre (parts : Parts) (precision : ℕ) (scale : ℤ) (width : ℕ) : Type 0 where
   pub precision_is : IsNumber parts.precision precision
   pub scale_is : IsSigned parts.scale scale
-  pub width_is : IsWidth parts.width width
+  -- with its comma; a width of 128 bits may be left out
+  pub width_is : ((parts.width ≡ []) × (width ≡ 128)) ⊎ ((digits : List ℕ) × (parts.width ≡ comma ++ digits) × IsNumber digits width)
 
 abbrev pub width_of : Bool → ℕ
 width_of false = 128
@@ -141,8 +132,8 @@ numbers_before (AtWidth precision scale) = precision ++ comma ++ scale ++ comma
 
 abbrev pub IsNumberPlace : NumberPlace → Type 0
 IsNumberPlace AtPrecision = Unit {0}
-IsNumberPlace (AtScale precision) = IsSomeNumber precision
-IsNumberPlace (AtWidth precision scale) = IsSomeNumber precision × IsSomeSigned scale
+IsNumberPlace (AtScale precision) = (n : ℕ) × IsNumber precision n
+IsNumberPlace (AtWidth precision scale) = ((n : ℕ) × IsNumber precision n) × ((n : ℤ) × IsSigned scale n)
 
 -- the number that must begin there doesn't
 abbrev pub Misses : NumberPlace → List ℕ → Type 0
@@ -154,20 +145,17 @@ Misses (AtWidth precision scale) more = NoNumber more
 abbrev pub Ends : Parts → List ℕ → Type 0
 Ends parts more = (StartsWithDigit more → ⊥) × (parts.width ≡ [] → StartsWith 44 more → ⊥)
 
--- a width that isn't of this version, and one that is of none
-abbrev pub IsNarrow : ℕ → Type 0
-IsNarrow width = (width ≡ 32) ⊎ (width ≡ 64)
-
 abbrev pub most_at : ℕ → ℕ
 most_at width = if width == 256 then 76 else 38
 
 abbrev pub KnownWidth : ℕ → Type 0
 KnownWidth width = (width ≡ 128) ⊎ (width ≡ 256)
 
--- A number is out of its range: the width comes first, then the precision, then the scale.
+-- A number is out of its range: the width comes first, then the precision, then the scale. Widths of 32 and 64 bits are not
+-- supported, and others but 128 and 256 are of no version.
 abbrev pub WidthFails : FormatRule → ℕ → Type 0
-WidthFails rules.Unsupported width = IsNarrow width
-WidthFails rules.OutOfRange width = (IsNarrow width → ⊥) × (KnownWidth width → ⊥)
+WidthFails rules.Unsupported width = (width ≡ 32) ⊎ (width ≡ 64)
+WidthFails rules.OutOfRange width = (((width ≡ 32) ⊎ (width ≡ 64)) → ⊥) × (KnownWidth width → ⊥)
 WidthFails _ width = ⊥
 
 abbrev pub RangeFails : FormatRule → Parts → ℕ → ℤ → ℕ → ℕ → Type 0
@@ -219,12 +207,9 @@ pub record FailsBehind (text : List ℕ) (rule : FormatRule) (place : ℕ) : Typ
   pub place_is : place ≡ length key.word + p
   pub fails : RestFails key.behind rest rule p
 
-abbrev pub StartsUnsupported : List ℕ → Type 0
-StartsUnsupported text = (word : List ℕ) × Contains keywords (record { word = word; behind = Refused }) × IsPrefix word text
-
 abbrev pub FormatFaultIs : List ℕ → FormatRule → ℕ → Type 0
 FormatFaultIs text rule place =
     ((rule ≡ rules.Empty) × (text ≡ []) × (place ≡ 0))
     ⊎ ((rule ≡ rules.Unknown) × (0 < length text) × UnknownAt text place)
-    ⊎ ((rule ≡ rules.Unsupported) × StartsUnsupported text × (place ≡ 0))
+    ⊎ ((rule ≡ rules.Unsupported) × ((word : List ℕ) × Contains keywords (record { word = word; behind = Refused }) × IsPrefix word text) × (place ≡ 0))
     ⊎ FailsBehind text rule place

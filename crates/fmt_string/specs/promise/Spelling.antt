@@ -11,9 +11,6 @@ abbrev pub int_word : ℕ → Bool → List ℕ
 int_word bits true = if bits == 8 then codes "c" else if bits == 16 then codes "s" else if bits == 32 then codes "i" else codes "l"
 int_word bits false = if bits == 8 then codes "C" else if bits == 16 then codes "S" else if bits == 32 then codes "I" else codes "L"
 
-abbrev pub float_word : ℕ → List ℕ
-float_word bits = if bits == 16 then codes "e" else if bits == 32 then codes "f" else codes "g"
-
 abbrev pub time_word : Tick → List ℕ
 time_word Second = codes "tts"
 time_word Milli = codes "ttm"
@@ -36,7 +33,7 @@ abbrev pub word_of : DataType → List ℕ
 word_of kinds.Null = codes "n"
 word_of kinds.Bool = codes "b"
 word_of (kinds.Int bits signed) = int_word bits signed
-word_of (kinds.Float bits) = float_word bits
+word_of (kinds.Float bits) = if bits == 16 then codes "e" else if bits == 32 then codes "f" else codes "g"
 word_of (kinds.Binary false) = codes "z"
 word_of (kinds.Binary true) = codes "Z"
 word_of (kinds.Utf8 false) = codes "u"

@@ -93,15 +93,9 @@ data_between wide a from to =
 abbrev pub data_of : Bool → ArrayMembers → ℕ → List ℕ
 data_of wide a i = data_between wide a (first a + i) (first a + i + 1)
 
--- an item that is stored in place, as bytes and as a number
-abbrev pub stored_bytes : ℕ → ArrayMembers → ℕ → List ℕ
-stored_bytes width a i = take width (drop ((first a + i) * width) (bytes a 1))
-
+-- an item that is stored in place, as a number
 abbrev pub stored_number : ℕ → Bool → ArrayMembers → ℕ → ℤ
 stored_number width signed a i = meant width signed (number_at (bytes a 1) ((first a + i) * width) width)
-
-abbrev pub bits_need : ℕ → ℕ
-bits_need n = (n + 7) / 8
 
 abbrev pub offsets_need : Bool → ℕ → ℕ
 offsets_need wide zero = 0
@@ -136,15 +130,11 @@ abbrev pub data_length : ArrayMembers → ℕ → ℕ
 data_length a k =
     if nat_lt (length (data_lengths a)) (lengths_need a) then 0 else natural (offset_in true (data_lengths a) k)
 
--- what a data buffer needs, and the lengths behind the last
-abbrev pub named_need : ArrayMembers → ℕ → ℕ
-named_need a k = if nat_lt k (data_buffers a) then data_length a k else lengths_need a
-
 -- how many bytes of its k-th buffer an array needs
 abbrev pub need : Layout → ArrayMembers → ℕ → ℕ
-need layout a zero = bits_need (end a)
+need layout a zero = (end a + 7) / 8
 need (FixedWidth width) a (suc k) = end a * width
-need TruthBits a (suc k) = bits_need (end a)
+need TruthBits a (suc k) = (end a + 7) / 8
 need (ByOffsets wide) a (suc zero) = offsets_need wide (end a)
 need (ByOffsets wide) a (suc (suc k)) = data_need wide a
 need (ListOffsets wide) a (suc k) = offsets_need wide (end a)
@@ -152,4 +142,4 @@ need NoBuffers a (suc k) = 0
 need (FixedItems size) a (suc k) = 0
 need ByChildren a (suc k) = 0
 need Views a (suc zero) = end a * view_width
-need Views a (suc (suc k)) = named_need a k
+need Views a (suc (suc k)) = if nat_lt k (data_buffers a) then data_length a k else lengths_need a

@@ -1,6 +1,6 @@
 -- The rules that an array must meet at a node.
 use Rattle.std.specs.Prelude.{ℕ, ℤ, pos, negsuc, Bool, true, false, not, ◌==◌, ◌&&◌, ◌||◌, nat_lt, int_lt, if◌then◌else◌, ◌+◌, ◌*◌, ◌/◌, ◌^◌, zero, suc}
-use Rattle.std.specs.Prelude.{is_some, List, [], ◌∷◌, ◌++◌, length, Option, Some, None}
+use Rattle.std.specs.Prelude.{is_some, List, [], ◌∷◌, length, Option, Some, None}
 use Rattle.std.specs.Option.{option_or}
 use Rattle.std.specs.Ordering.{int_eq}
 use Rattle.std.specs.Str.{is_utf8}
@@ -16,7 +16,7 @@ use Rattle.layout_rules.specs.declared.rule.Numbers.{Numbers}
 use Rattle.data_types.specs.promise.KindTrees.{KindTree}
 use Rattle.layout_rules.specs.promise.Layout.{is_valid, layout_of, buffer_count, need, bytes, buffer, offset, offset_in, first, items, end, natural, data_of}
 use Rattle.layout_rules.specs.promise.Layout.{data_buffers, data_length, stored_number}
-use Rattle.layout_rules.specs.promise.Views.{view_length, view_prefix, view_buffer, view_offset, view_data, is_long}
+use Rattle.layout_rules.specs.promise.Views.{view_length, view_buffer, view_offset, view_data, is_long, view_number}
 use Rattle.layout_rules.specs.declared.layout.Layout.{Layout}
 use Rattle.layout_rules.specs.declared.layout.Layout.TheVariants.{NoBuffers, ByOffsets, ListOffsets, FixedItems, ByChildren, Views}
 
@@ -64,10 +64,6 @@ abbrev pub buffer_absent : Layout → ArrayMembers → ℕ → Option Numbers
 buffer_absent layout own zero = None
 buffer_absent layout own (suc k) = missing (need layout own (suc k)) own (suc k)
 
--- a present buffer that is shorter than its need
-abbrev pub buffer_short : Layout → ArrayMembers → ℕ → Option Numbers
-buffer_short layout own k = too_short (need layout own k) own k
-
 -- the first fault of the numbers below n
 abbrev pub first_below : (ℕ → Option Numbers) → ℕ → Option Numbers
 first_below f zero = None
@@ -81,16 +77,13 @@ falls_in wide offsets start i =
     let next = offset_in wide offsets (start + i + 1) in
     fault_if (int_lt next here) i here next
 
-abbrev pub offset_falls : Bool → ArrayMembers → ℕ → Option Numbers
-offset_falls wide own = falls_in wide (bytes own 1) (first own)
-
 -- an offset below 0 at the first item, or the first item whose offset is above the next one
 abbrev pub offsets_fall : Bool → ArrayMembers → Option Numbers
 offsets_fall wide own =
     let at_first = offset wide own (first own) in
     if end own == 0 then None
     else if is_negative at_first then fault 0 (pos 0) at_first
-    else first_below (offset_falls wide own) (items own)
+    else first_below (falls_in wide (bytes own 1) (first own)) (items own)
 
 abbrev pub is_behind_offsets : Layout → Option Bool
 is_behind_offsets (ByOffsets wide) = Some wide
@@ -152,15 +145,9 @@ child_short needed k (child ∷ rest) = option_or (short_child needed k (live_le
 abbrev pub bad_text : ArrayMembers → ℕ → List ℕ → Option Numbers
 bad_text own i text = fault_if (is_valid own i && not (is_utf8 text)) i (pos (utf8_valid_len text)) (pos (length text))
 
-abbrev pub not_text : Bool → ArrayMembers → ℕ → Option Numbers
-not_text wide own i = bad_text own i (data_of wide own i)
-
-abbrev pub view_not_text : ArrayMembers → ℕ → Option Numbers
-view_not_text own i = bad_text own i (view_data own i)
-
 abbrev pub texts_wrong : DataType → ArrayMembers → Option Numbers
-texts_wrong (kinds.Utf8 wide) own = first_below (not_text wide own) (items own)
-texts_wrong kinds.Utf8View own = first_below (view_not_text own) (items own)
+texts_wrong (kinds.Utf8 wide) own = first_below (λ i. bad_text own i (data_of wide own i)) (items own)
+texts_wrong kinds.Utf8View own = first_below (λ i. bad_text own i (view_data own i)) (items own)
 texts_wrong _ own = None
 
 -- an index, valid or not, that is no place of a dictionary of this many items
@@ -200,18 +187,15 @@ view_outside own i =
     else if is_long size then named_outside own i
     else None
 
-abbrev pub misplaced : ArrayMembers → ℕ → Option Numbers
-misplaced own i = if is_valid own i then view_outside own i else None
-
 abbrev pub views_misplaced : Layout → ArrayMembers → Option Numbers
-views_misplaced Views own = first_below (misplaced own) (items own)
+views_misplaced Views own = first_below (λ i. if is_valid own i then view_outside own i else None) (items own)
 views_misplaced _ own = None
 
 -- a valid long view whose prefix isn't how its data begin
 abbrev pub prefix_wrong : ArrayMembers → ℕ → Option Numbers
 prefix_wrong own i =
     let begin = number_at (view_data own i) 0 4 in
-    fault_if (is_valid own i && is_long (view_length own i) && not (view_prefix own i == begin)) i (pos (view_prefix own i)) (pos begin)
+    fault_if (is_valid own i && is_long (view_length own i) && not (view_number own i 1 == begin)) i (pos (view_number own i 1)) (pos begin)
 
 abbrev pub prefixes_wrong : Layout → ArrayMembers → Option Numbers
 prefixes_wrong Views own = first_below (prefix_wrong own) (items own)
@@ -237,7 +221,7 @@ fails rules.ChildCount node = count_wrong (length node.children) (length node.ki
 fails rules.Dictionary node = count_wrong (one_if node.dictionary) (one_if node.dict)
 fails rules.BufferAbsent node = first_below (buffer_absent (layout_of node.kind) node.own) (buffer_count (layout_of node.kind) (length node.own.buffers))
 fails rules.OffsetsFall node = offsets_fall_if (is_behind_offsets (layout_of node.kind)) node.own
-fails rules.BufferShort node = first_below (buffer_short (layout_of node.kind) node.own) (buffer_count (layout_of node.kind) (length node.own.buffers))
+fails rules.BufferShort node = first_below (λ k. too_short (need (layout_of node.kind) node.own k) node.own k) (buffer_count (layout_of node.kind) (length node.own.buffers))
 fails rules.ChildShort node = child_short (items_need (layout_of node.kind) node.own) 0 node.children
 fails rules.NullCount node = null_count_wrong_in (layout_of node.kind) node.own
 fails rules.ViewPlace node = views_misplaced (layout_of node.kind) node.own
@@ -249,16 +233,8 @@ fails rules.TopNulls node = None
 fails rules.TopKind node = None
 
 -- the order in which a live node's rules are tried: those of its form, of its buffers, of its items
-abbrev pub form_rules : List LayoutRule
-form_rules =
-    rules.NegativeLength ∷ rules.NegativeOffset ∷ rules.BufferCount ∷ rules.ChildCount ∷ rules.Dictionary ∷ []
-
-abbrev pub buffer_rules : List LayoutRule
-buffer_rules = rules.BufferAbsent ∷ rules.BufferShort ∷ rules.OffsetsFall ∷ []
-
-abbrev pub item_rules : List LayoutRule
-item_rules =
-    rules.ChildShort ∷ rules.NullCount ∷ rules.ViewPlace ∷ rules.ViewPrefix ∷ rules.NotText ∷ rules.IndexRange ∷ rules.WindowTooLong ∷ []
-
 abbrev pub in_order : List LayoutRule
-in_order = form_rules ++ buffer_rules ++ item_rules
+in_order =
+    rules.NegativeLength ∷ rules.NegativeOffset ∷ rules.BufferCount ∷ rules.ChildCount ∷ rules.Dictionary ∷
+    rules.BufferAbsent ∷ rules.BufferShort ∷ rules.OffsetsFall ∷
+    rules.ChildShort ∷ rules.NullCount ∷ rules.ViewPlace ∷ rules.ViewPrefix ∷ rules.NotText ∷ rules.IndexRange ∷ rules.WindowTooLong ∷ []

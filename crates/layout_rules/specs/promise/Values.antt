@@ -1,5 +1,5 @@
 -- The values of a lawful array ("Arrow Columnar Format").
-use Rattle.std.specs.Prelude.{ℕ, zero, suc, ◌+◌, ◌-◌, ◌*◌, ◌/◌, Bool, false, ◌==◌, if◌then◌else◌, List, [], ◌∷◌, Option, Some, None}
+use Rattle.std.specs.Prelude.{ℕ, zero, suc, ◌+◌, ◌-◌, ◌*◌, ◌/◌, Bool, false, ◌==◌, if◌then◌else◌, List, [], ◌∷◌, Option, Some, None, take, drop}
 use Rattle.data_types.specs.declared.kind.DataType.{DataType}
 use Rattle.data_types.specs.declared.kind.DataType.TheVariants as kinds
 use Rattle.data_types.specs.declared.storage.Storage.{Storage}
@@ -12,7 +12,7 @@ use Rattle.data_types.specs.promise.Value.Value.{Null, Truth, Whole, Bits, Bytes
 use Rattle.tree_model.specs.promise.TreeData.{Released, Live, Trees, no_trees, more_trees, MaybeTree, absent, present, tree_list, option_tree}
 use Rattle.raw_array.specs.promise.Members.{ArrayMembers, ArrayTree}
 use Rattle.data_types.specs.promise.KindTrees.{KindTree}
-use Rattle.layout_rules.specs.promise.Layout.{first, items, bytes, is_valid, natural, offset, data_of, stored_bytes, stored_number}
+use Rattle.layout_rules.specs.promise.Layout.{first, items, bytes, is_valid, natural, offset, data_of, stored_number}
 use Rattle.layout_rules.specs.promise.Views.{view_data}
 
 -- f at each of the numbers from a on, this many of them
@@ -55,21 +55,17 @@ stored_item stored.Nothing kids a children i = Null
 stored_item stored.Truths kids a children i = Truth (bit (bytes a 1) (first a + i) == 1)
 stored_item (stored.Wholes bits signed) kids a children i = Whole (stored_number (bits / 8) signed a i)
 stored_item (stored.Floats bits) kids a children i = Bits (natural (stored_number (bits / 8) false a i))
-stored_item (stored.Sized size) kids a children i = Bytes (stored_bytes size a i)
+stored_item (stored.Sized size) kids a children i = Bytes (take size (drop ((first a + i) * size) (bytes a 1)))
 stored_item (stored.Between wide text) kids a children i = Bytes (data_of wide a i)
 stored_item (stored.Views text) kids a children i = Bytes (view_data a i)
 stored_item (stored.Lists wide) kids a children i = listed wide kids a children i
 stored_item (stored.FixedLists size) kids a children i = Items (values (each (child_item kids children) ((first a + i) * size) size))
 stored_item stored.Children kids a children i = Fields (values (field_items kids children (first a + i)))
 
--- the same of a type
-abbrev pub item : DataType → List Reader → ArrayMembers → List ArrayTree → ℕ → Value
-item kind kids a children i = stored_item (storage_of kind) kids a children i
-
 -- ---- the items of an array
 -- the item of an array with a dictionary is the dictionary's item at the stored index
 abbrev pub item_or_entry : Option Reader → DataType → List Reader → ArrayMembers → List ArrayTree → Option ArrayTree → ℕ → Value
-item_or_entry None kind kids a children dictionary i = item kind kids a children i
+item_or_entry None kind kids a children dictionary i = stored_item (storage_of kind) kids a children i
 item_or_entry (Some read) (kinds.Int width signed) kids a children dictionary i =
     dictionary_item read dictionary (natural (stored_number (width / 8) signed a i))
 item_or_entry (Some read) _ kids a children dictionary i = Null

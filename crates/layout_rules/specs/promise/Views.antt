@@ -13,9 +13,6 @@ view_number a i word = number_at (bytes a 1) (((first a + i) * 4 + word) * 4) 4
 abbrev pub view_length : ArrayMembers → ℕ → ℤ
 view_length a i = meant 4 true (view_number a i 0)
 
-abbrev pub view_prefix : ArrayMembers → ℕ → ℕ
-view_prefix a i = view_number a i 1
-
 abbrev pub view_buffer : ArrayMembers → ℕ → ℤ
 view_buffer a i = meant 4 true (view_number a i 2)
 
@@ -26,13 +23,11 @@ view_offset a i = meant 4 true (view_number a i 3)
 abbrev pub is_long : ℤ → Bool
 is_long size = int_lt (pos 12) size
 
--- the item's bytes in the view, and in the data buffer that the view names
-abbrev pub data_in_view : ArrayMembers → ℕ → List ℕ
-data_in_view a i = take (natural (view_length a i)) (drop ((first a + i) * view_width + 4) (bytes a 1))
-
+-- the item's bytes in the data buffer that the view names
 abbrev pub data_named : ArrayMembers → ℕ → List ℕ
 data_named a i =
     take (natural (view_length a i)) (drop (natural (view_offset a i)) (bytes a (data_place (natural (view_buffer a i)))))
 
+-- the item's bytes, which are in the view where they fit
 abbrev pub view_data : ArrayMembers → ℕ → List ℕ
-view_data a i = if is_long (view_length a i) then data_named a i else data_in_view a i
+view_data a i = if is_long (view_length a i) then data_named a i else take (natural (view_length a i)) (drop ((first a + i) * view_width + 4) (bytes a 1))

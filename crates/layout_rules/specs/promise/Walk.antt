@@ -67,27 +67,20 @@ abbrev pub fault_at : Steps → LayoutRule → Option Numbers → Option Fault
 fault_at path rule None = None
 fault_at path rule (Some numbers) = Some (record { path = path; rule = rule; numbers = numbers })
 
-abbrev pub fault_by : Steps → Node → LayoutRule → Option Fault
-fault_by path node rule = fault_at path rule (fails rule node)
-
 abbrev pub first_some : {X Y : Type 0} → (X → Option Y) → List X → Option Y
 first_some f [] = None
 first_some f (x ∷ xs) = option_or (f x) (first_some f xs)
 
 abbrev pub node_fault : Steps → Option Node → Option Fault
 node_fault path None = Some (record { path = path; rule = rules.Released; numbers = record { place = 0; left = pos 0; right = pos 0 } })
-node_fault path (Some node) = first_some (fault_by path node) in_order
+node_fault path (Some node) = first_some (λ rule. fault_at path rule (fails rule node)) in_order
 
 abbrev pub visit_fault : Visit → Option Fault
 visit_fault visit = node_fault visit.path visit.node
 
--- the first fault of a walk that begins at these steps
-abbrev pub fault_from : KindTree → Steps → ArrayTree → Option Fault
-fault_from typed path array = first_some visit_fault (visits typed path array)
-
 -- the first failing node in preorder, and its first rule
 abbrev pub first_fault : KindTree → ArrayTree → Option Fault
-first_fault typed array = fault_from typed [] array
+first_fault typed array = first_some visit_fault (visits typed [] array)
 
 -- No rule fails at any node.
 abbrev pub LayoutOk : KindTree → ArrayTree → Type 0

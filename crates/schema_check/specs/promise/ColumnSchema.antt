@@ -15,10 +15,6 @@ nullable = pos 2
 abbrev pub struct_format : List ℕ
 struct_format = codes "+s"
 
--- the format of a dictionary's indices, which have 32 bits
-abbrev pub index_format : List ℕ
-index_format = codes "i"
-
 -- a node without metadata
 abbrev pub node : List ℕ → Option (List ℕ) → ℤ → Trees SchemaMembers → MaybeTree SchemaMembers → SchemaTree
 node format name flags children dictionary = Live (record { format = format; name = name; metadata = None; flags = flags }) children dictionary
@@ -28,19 +24,17 @@ abbrev pub values_schema : Option (List ℕ) → DataType → SchemaTree
 values_schema name kind = node (spelling_of kind) name nullable no_trees absent
 
 abbrev mutual
-  -- the schema of a column: its values; indices and, without a name, a dictionary of values; or a struct of columns
+  -- the schema of a column: its values; indices of 32 bits and, without a name, a dictionary of
+  -- values; or a struct of columns
   pub column_schema : List ℕ → Kind → SchemaTree
   column_schema name (Flat kind) = values_schema (Some name) kind
-  column_schema name (Dict kind) = node index_format (Some name) nullable no_trees (present (values_schema None kind))
+  column_schema name (Dict kind) = node (codes "i") (Some name) nullable no_trees (present (values_schema None kind))
   column_schema name (Columns members) = node struct_format (Some name) nullable (member_schemas members) absent
 
   pub member_schemas : Members → Trees SchemaMembers
   member_schemas no_members = no_trees
   member_schemas (more_members name kind rest) = more_trees (column_schema name kind) (member_schemas rest)
 
-abbrev pub schema_of_column : Column → SchemaTree
-schema_of_column c = column_schema c.name c.kind
-
 -- the schema of a table: a struct of its columns, which has an empty name and is never null
 abbrev pub SchemaOf : List Column → SchemaTree
-SchemaOf columns = node struct_format (Some []) (pos 0) (trees (map schema_of_column columns)) absent
+SchemaOf columns = node struct_format (Some []) (pos 0) (trees (map (λ c. column_schema c.name c.kind) columns)) absent

@@ -99,14 +99,10 @@ pub record BeginsAt (bytes : List ℕ) (p : ℕ) (here : Place) (rest : List ℕ
   pub split : bytes ≡ front here ++ rest
   pub place : length (front here) ≡ p
 
--- an int32 is below 0 where its first bit is set
-abbrev pub IsNegative : List ℕ → Type 0
-IsNegative rest = 2 ^ 31 ≤ from_le_bytes w32 (take 4 rest)
-
 -- A field that doesn't lie in the bytes, a number below 0, or bytes behind the last pair.
 abbrev pub MetaFaultIs : List ℕ → MetaFault → Type 0
 MetaFaultIs bytes (Short p) = (here : Place) × (rest : List ℕ) × BeginsAt bytes p here rest × (length rest < size here)
-MetaFaultIs bytes (Negative p) = (here : Place) × (rest : List ℕ) × BeginsAt bytes p here rest × IsNumber here × (4 ≤ length rest) × IsNegative rest
+MetaFaultIs bytes (Negative p) = (here : Place) × (rest : List ℕ) × BeginsAt bytes p here rest × IsNumber here × (4 ≤ length rest) × (2 ^ 31 ≤ from_le_bytes w32 (take 4 rest))
 MetaFaultIs bytes (Trailing p) =
     (ps : List Pair) × (rest : List ℕ) × MetaIs (spelling ps) ps × (bytes ≡ spelling ps ++ rest) × (length (spelling ps) ≡ p) × (0 < length rest)
 MetaFaultIs bytes NoMemory = ⊥

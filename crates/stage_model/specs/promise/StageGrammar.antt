@@ -25,13 +25,9 @@ pub record Cut : Type 0 where
   pub front : List ℕ
   pub behind : List ℕ
 
--- the text, cut at a place
-abbrev pub cut_behind : List ℕ → ℕ → Cut
-cut_behind text place = record { front = take place text; behind = drop (place + 1) text }
-
 -- the text, cut at the first such byte, where it has one
 abbrev pub cut_at : ℕ → List ℕ → Option Cut
-cut_at byte text = option_map (cut_behind text) (position (λ b. b == byte) text)
+cut_at byte text = option_map (λ place. record { front = take place text; behind = drop (place + 1) text }) (position (λ b. b == byte) text)
 
 -- ---- names
 
@@ -130,9 +126,6 @@ stage_words =
     stage_word (codes "totals") (λ arguments. Some (texts.Totals (names_in arguments))) ∷
     []
 
-abbrev pub word_named : List StageWord → List ℕ → Option StageWord
-word_named words name = find (λ w. bytes_eq w.word name) words
-
 -- the stage of a word and of arguments, which are there where the text has an `=`
 abbrev pub read_by : Option StageWord → Option (List ℕ) → Result StageText StageFault
 read_by None arguments = Err UnknownStage
@@ -141,13 +134,9 @@ read_by (Some word) (Some arguments) = ok_or (word.read arguments) BadArguments
 
 -- the stage of a text that is cut at its first `=`, or has none: the name is what precedes it, or the whole text
 abbrev pub stage_cut : List StageWord → List ℕ → Option Cut → Result StageText StageFault
-stage_cut words text None = read_by (word_named words text) None
-stage_cut words text (Some cut) = read_by (word_named words cut.front) (Some cut.behind)
-
--- the stage that a text spells by these words, or its fault
-abbrev pub stage_by : List StageWord → List ℕ → Result StageText StageFault
-stage_by words text = stage_cut words text (cut_at equals_sign text)
+stage_cut words text None = read_by (find (λ w. bytes_eq w.word text) words) None
+stage_cut words text (Some cut) = read_by (find (λ w. bytes_eq w.word cut.front) words) (Some cut.behind)
 
 -- the stage that a text spells, or its fault
 abbrev pub stage_of : List ℕ → Result StageText StageFault
-stage_of text = stage_by stage_words text
+stage_of text = stage_cut stage_words text (cut_at equals_sign text)

@@ -1,14 +1,14 @@
 -- What a stage makes of a table, and of the chunks of a stream.
-use Rattle.std.specs.Prelude.{ℕ, ◌+◌, ℤ, pos, ◌+ℤ◌, int_lt, Bool, not, ◌&&◌, nat_lt, nat_le, List, [], ◌∷◌, get_or, length, map, Option, None, Some}
+use Rattle.std.specs.Prelude.{ℕ, ◌+◌, ℤ, pos, ◌+ℤ◌, int_lt, Bool, not, ◌&&◌, nat_lt, nat_le, List, [], ◌∷◌, get_or, length, map, Option, None, Some, ◌++◌, drop, take}
 use Rattle.std.specs.Prelude.{if◌then◌else◌}
 use Rattle.std.specs.List.{filter, filter_map, flat_map, fold}
 use Rattle.std.specs.Cmp.Lexicographic.{slice_cmp}
 use Rattle.std.specs.declared.cmp.Ordering.{Ordering}
 use Rattle.std.specs.Ordering.{bool_cmp, int_cmp, nat_cmp, is_eq, is_ne, is_lt, is_le, is_gt, is_ge, is_some_and}
 use Rattle.csv_model.specs.promise.Batches.{Chunks}
-use Rattle.data_types.specs.promise.Parts.{column_values, joined_rows, packed, picked, unpacked}
+use Rattle.data_types.specs.promise.Parts.{column_values, picked, fields_of}
 use Rattle.data_types.specs.promise.Table.{Column, Row, Table}
-use Rattle.data_types.specs.promise.Value.{Value, Null, Truth, Whole, Bytes, is_null}
+use Rattle.data_types.specs.promise.Value.{Value, Null, Truth, Whole, Bytes, is_null, Fields, values}
 use Rattle.data_types.specs.declared.row_fault.RowFault.{RowFault}
 use Rattle.stage_model.specs.promise.Typing.{Stage}
 use Rattle.stage_model.specs.declared.stage.Const.{Const}
@@ -20,14 +20,11 @@ use Rattle.stage_model.specs.declared.stage.Test.TheVariants as tests
 
 -- ---- slice
 
--- the number lies in the window
-abbrev pub is_within : ℕ → ℕ → ℕ → Bool
-is_within off len number = nat_le off number && nat_lt number (off + len)
-
 -- the rows whose number is in the window, where they are numbered from `number` on
 abbrev pub sliced : ℕ → ℕ → ℕ → List Row → List Row
 sliced off len number [] = []
-sliced off len number (row ∷ rows) = if is_within off len number then row ∷ sliced off len (number + 1) rows else sliced off len (number + 1) rows
+sliced off len number (row ∷ rows) =
+    if nat_le off number && nat_lt number (off + len) then row ∷ sliced off len (number + 1) rows else sliced off len (number + 1) rows
 
 -- ---- filter
 
@@ -55,31 +52,15 @@ abbrev pub number_if : Value → Option ℤ
 number_if (Whole number) = Some number
 number_if _ = None
 
--- the numbers of a column, without its nulls
-abbrev pub numbers_at : ℕ → List Row → List ℤ
-numbers_at place rows = filter_map number_if (column_values place rows)
-
-abbrev pub lesser : ℤ → ℤ → ℤ
-lesser a b = if int_lt b a then b else a
-
-abbrev pub greater : ℤ → ℤ → ℤ
-greater a b = if int_lt a b then b else a
-
 -- the number that a choice keeps of them all, and null where there is none
 abbrev pub extreme : (ℤ → ℤ → ℤ) → List ℤ → Value
 extreme choice [] = Null
 extreme choice (number ∷ numbers) = Whole (fold choice number numbers)
 
-abbrev pub sum_of : List ℤ → ℤ
-sum_of numbers = fold ◌+ℤ◌ (pos 0) numbers
-
--- how many, their sum, the least and the greatest
+-- of the numbers of a column: how many, their sum, the least and the greatest
 abbrev pub totals_values : List ℤ → List Value
-totals_values numbers = Whole (pos (length numbers)) ∷ Whole (sum_of numbers) ∷ extreme lesser numbers ∷ extreme greater numbers ∷ []
-
--- the same of each of these columns
-abbrev pub totals_row : List ℕ → List Row → Row
-totals_row columns rows = flat_map (λ place. totals_values (numbers_at place rows)) columns
+totals_values numbers =
+    Whole (pos (length numbers)) ∷ Whole (fold ◌+ℤ◌ (pos 0) numbers) ∷ extreme (λ a b. if int_lt b a then b else a) numbers ∷ extreme (λ a b. if int_lt a b then b else a) numbers ∷ []
 
 -- ---- a table
 
@@ -88,11 +69,11 @@ abbrev pub rows_after : Step → List Row → List Row
 rows_after (steps.Select picks) rows = map (picked Null picks) rows
 rows_after (steps.Slice off len) rows = sliced off len 0 rows
 rows_after (steps.Filter column test constant) rows = filter (λ row. passes test constant (get_or row column Null)) rows
-rows_after (steps.Pack rest picks) rows = map (packed rest picks) rows
-rows_after (steps.Unpack column) rows = map (unpacked column) rows
+rows_after (steps.Pack rest picks) rows = map (λ row. picked Null rest row ++ Fields (values (picked Null picks row)) ∷ []) rows
+rows_after (steps.Unpack column) rows = map (λ row. take column row ++ fields_of (get_or row column Null) ++ drop (column + 1) row) rows
 rows_after (steps.Dict column) rows = rows
 rows_after (steps.Plain column) rows = rows
-rows_after (steps.Totals columns) rows = totals_row columns rows ∷ []
+rows_after (steps.Totals columns) rows = flat_map (λ place. totals_values (filter_map number_if (column_values place rows))) columns ∷ []
 
 abbrev pub table : List Column → List Row → Table
 table columns rows = record { columns = columns; rows = rows }
@@ -121,7 +102,7 @@ at_end (Some fault) rows = []
 -- the chunks after a step, by how those before it end
 abbrev pub chunks_after : Step → Option RowFault → List (List Row) → List (List Row)
 chunks_after (steps.Slice off len) ending chunks = sliced_chunks off len 0 chunks
-chunks_after (steps.Totals columns) ending chunks = at_end ending (rows_after (steps.Totals columns) (joined_rows chunks))
+chunks_after (steps.Totals columns) ending chunks = at_end ending (rows_after (steps.Totals columns) (flat_map (λ rows. rows) chunks))
 chunks_after step ending chunks = map (rows_after step) chunks
 
 -- the chunks after a step: the ending is passed on

@@ -49,10 +49,6 @@ one_if_any (x ∷ xs) = 1
 abbrev pub validity_blocks : List Value → ℕ
 validity_blocks values = if list_any is_null values then 1 else 0
 
--- data where there are rows
-abbrev pub row_blocks : List Value → ℕ
-row_blocks values = one_if_any values
-
 -- offsets, and data where there are bytes
 abbrev pub offset_blocks : List Value → ℕ
 offset_blocks values = 1 + one_if_any (concat (map bytes_of values))
@@ -61,42 +57,30 @@ abbrev pub form_blocks : Option Form → List Value → ℕ
 form_blocks None values = 0
 form_blocks (Some Text) values = offset_blocks values
 form_blocks (Some HexBytes) values = offset_blocks values
-form_blocks (Some (SizedHex size)) values = if size == 0 then 0 else row_blocks values
-form_blocks (Some _) values = row_blocks values
+form_blocks (Some (SizedHex size)) values = if size == 0 then 0 else one_if_any values
+form_blocks (Some _) values = one_if_any values
 
 -- the blocks of a column of plain values
 abbrev pub flat_blocks : DataType → List Value → ℕ
 flat_blocks type values = validity_blocks values + form_blocks (form_of type) values
 
--- the blocks of a column of indices of these values
-abbrev pub index_blocks : List Value → ℕ
-index_blocks values = validity_blocks values + row_blocks values
-
 abbrev pub dictionary_blocks : Dictionaries → DataType → List Value → ℕ
 dictionary_blocks Made type values = flat_blocks type (Dictionary values)
 dictionary_blocks Moved type values = 0
 
--- the values of a member of a struct column
-abbrev pub member_values : ℕ → List Value → List Value
-member_values place values = map (λ value. get_or (fields_of value) place Null) values
-
 abbrev mutual
   pub kind_blocks : Dictionaries → Kind → List Value → ℕ
   kind_blocks how (Flat type) values = flat_blocks type values
-  kind_blocks how (Dict type) values = index_blocks values + dictionary_blocks how type values
+  kind_blocks how (Dict type) values = (validity_blocks values + one_if_any values) + dictionary_blocks how type values
   kind_blocks how (Columns members) values = member_blocks how members 0 values
 
   pub member_blocks : Dictionaries → Members → ℕ → List Value → ℕ
   member_blocks how no_members place values = 0
-  member_blocks how (more_members name kind rest) place values = kind_blocks how kind (member_values place values) + member_blocks how rest (place + 1) values
+  member_blocks how (more_members name kind rest) place values = kind_blocks how kind (map (λ value. get_or (fields_of value) place Null) values) + member_blocks how rest (place + 1) values
 
 abbrev pub blocks_from : Dictionaries → ℕ → List Column → List Row → ℕ
 blocks_from how place [] rows = 0
 blocks_from how place (c ∷ cs) rows = kind_blocks how c.kind (column_values place rows) + blocks_from how (place + 1) cs rows
-
--- those of all columns of a chunk, and of one of them
-abbrev pub table_blocks : Dictionaries → List Column → List Row → ℕ
-table_blocks how columns rows = blocks_from how 0 columns rows
 
 abbrev pub column_blocks : ℕ → List Column → List Row → ℕ
 column_blocks place columns rows = kind_blocks Made (get_or columns place no_column).kind (column_values place rows)
@@ -117,27 +101,21 @@ made_nodes (Some (steps.Totals places)) columns = table_nodes Made columns
 
 -- and the blocks, by the rows of the chunk
 abbrev pub made_blocks : Option Step → List Column → List Row → ℕ
-made_blocks None columns rows = table_blocks Made columns rows
+made_blocks None columns rows = blocks_from Made 0 columns rows
 made_blocks (Some (steps.Select picks)) columns rows = 0
 made_blocks (Some (steps.Slice off len)) columns rows = 0
-made_blocks (Some (steps.Filter column test constant)) columns rows = table_blocks Moved columns rows
+made_blocks (Some (steps.Filter column test constant)) columns rows = blocks_from Moved 0 columns rows
 made_blocks (Some (steps.Pack rest picks)) columns rows = 0
 made_blocks (Some (steps.Unpack column)) columns rows = 0
 made_blocks (Some (steps.Dict column)) columns rows = column_blocks column columns rows
 made_blocks (Some (steps.Plain column)) columns rows = column_blocks column columns rows
-made_blocks (Some (steps.Totals places)) columns rows = table_blocks Made columns rows
+made_blocks (Some (steps.Totals places)) columns rows = blocks_from Made 0 columns rows
 
 -- ---- runs
 
--- the schema's nodes, and those of each chunk
-abbrev pub link_nodes : Link → ℕ
-link_nodes link = table_nodes Made link.columns + sum_by (λ rows. made_nodes link.maker link.columns) link.chunks
-
-abbrev pub link_blocks : Link → ℕ
-link_blocks link = sum_by (made_blocks link.maker link.columns) link.chunks
-
+-- for each link the schema's nodes, and those of each chunk
 abbrev pub run_nodes : List Link → ℕ
-run_nodes links = sum_by link_nodes links
+run_nodes links = sum_by (λ (link : Link). table_nodes Made link.columns + sum_by (λ rows. made_nodes link.maker link.columns) link.chunks) links
 
 abbrev pub run_blocks : List Link → ℕ
-run_blocks links = sum_by link_blocks links
+run_blocks links = sum_by (λ (link : Link). sum_by (made_blocks link.maker link.columns) link.chunks) links

@@ -1,12 +1,13 @@
 -- The typing of stages over columns: the step of each and the columns after it, or the first fault.
-use Rattle.std.specs.Prelude.{ℕ, ◌+◌, ℤ, pos, Bool, true, false, not, ◌||◌, ◌==◌, nat_lt, nat_le, List, [], ◌∷◌, ◌++◌, codes, get_or, length, map}
+use Rattle.std.specs.Prelude.{ℕ, ◌+◌, ℤ, pos, Bool, true, false, not, ◌||◌, ◌==◌, nat_lt, nat_le, List, [], ◌∷◌, ◌++◌, codes, get_or, length, map, take, drop}
 use Rattle.std.specs.Prelude.{Option, None, Some, is_none, is_some, Result, Ok, Err}
 use Rattle.std.specs.List.{filter, find, flat_map, list_all, list_any, position, range_with_len}
 use Rattle.std.specs.Option.{option_and_then, unwrap_or}
 use Rattle.std.specs.Str.{bytes_eq}
 use Rattle.csv_model.specs.promise.Header.{first_twice}
 use Rattle.data_types.specs.promise.FieldText.{read_text}
-use Rattle.data_types.specs.promise.Parts.{packed_columns, picked, replaced, unpacked_columns}
+use Rattle.data_types.specs.promise.ColumnView.{members}
+use Rattle.data_types.specs.promise.Parts.{picked, replaced, member_columns}
 use Rattle.data_types.specs.promise.Table.{Column, Kind, Flat, Dict, Columns, Members, no_members}
 use Rattle.data_types.specs.promise.Value.{Value, Truth, Whole, Bytes}
 use Rattle.data_types.specs.declared.kind.DataType.{DataType}
@@ -59,13 +60,10 @@ column_named columns name = get_or columns (place_of columns name) no_column
 abbrev pub columns_named : List Column → List (List ℕ) → List Column
 columns_named columns names = picked no_column (places_of columns names) columns
 
--- the other numbers below `count`, in order
-abbrev pub others : List ℕ → ℕ → List ℕ
-others picks count = filter (λ p. not (list_any (λ q. q == p) picks)) (range_with_len 0 count)
-
--- the places of all other columns
+-- the places of all other columns, in order
 abbrev pub rest_of : List Column → List (List ℕ) → List ℕ
-rest_of columns names = others (places_of columns names) (length columns)
+rest_of columns names =
+    filter (λ p. not (list_any (λ q. q == p) (places_of columns names))) (range_with_len 0 (length columns))
 
 -- ---- the constant of a filter
 
@@ -160,8 +158,12 @@ columns_after columns (texts.Select names) = columns_named columns names
 columns_after columns (texts.Drop names) = picked no_column (rest_of columns names) columns
 columns_after columns (texts.Slice off len) = columns
 columns_after columns (texts.Filter name test constant) = columns
-columns_after columns (texts.Pack made names) = packed_columns no_column made (rest_of columns names) (places_of columns names) columns
-columns_after columns (texts.Unpack name) = unpacked_columns (place_of columns name) (struct_members (column_named columns name).kind) columns
+columns_after columns (texts.Pack made names) =
+    picked no_column (rest_of columns names) columns ++ record { name = made; kind = Columns (members (columns_named columns names)) } ∷ []
+columns_after columns (texts.Unpack name) =
+    take (place_of columns name) columns
+    ++ member_columns (struct_members (column_named columns name).kind)
+    ++ drop (place_of columns name + 1) columns
 columns_after columns (texts.Dict name) = with_kind columns name (dict_kind (column_named columns name).kind)
 columns_after columns (texts.Plain name) = with_kind columns name (plain_kind (column_named columns name).kind)
 columns_after columns (texts.Totals names) = flat_map totals_columns (columns_named columns names)
@@ -202,9 +204,6 @@ takes (texts.Plain name) kind = is_dict kind
 takes (texts.Totals names) kind = is_summed kind
 takes _ kind = true
 
-abbrev pub has_twice : List (List ℕ) → Bool
-has_twice names = is_some (first_twice names)
-
 -- a filter's constant is no text of its column's kind
 abbrev pub lacks_constant : List Column → StageText → Bool
 lacks_constant columns (texts.Filter name test constant) = is_none (const_for (column_named columns name).kind test constant)
@@ -234,15 +233,12 @@ tested rule fails = record { rule = rule; fails = fails }
 abbrev pub rules_of : List Column → StageText → List RuleTest
 rules_of columns text =
     tested rules.NoColumn (list_any (λ name. is_none (place_if columns name)) (names_of text)) ∷
-    tested rules.SameName (has_twice (names_of text) || has_twice (map (λ c. c.name) (columns_after columns text))) ∷
+    tested rules.SameName (is_some (first_twice (names_of text)) || is_some (first_twice (map (λ c. c.name) (columns_after columns text)))) ∷
     tested rules.WrongType (not (list_all (λ c. takes text c.kind) (columns_named columns (names_of text)))) ∷
     tested rules.BadConstant (lacks_constant columns text) ∷
     tested rules.NoColumns (drops_all columns text) ∷
     tested rules.TooWide (nat_lt most_columns (length (columns_after columns text))) ∷
     []
-
-abbrev pub first_failing : List RuleTest → Option RuleTest
-first_failing rule_tests = find (λ t. t.fails) rule_tests
 
 -- ---- a stage, and stages in a row
 
@@ -257,7 +253,8 @@ stage_unless (Some test) stage = Err test.rule
 
 -- the stage that a text is over columns, or its first rule at fault
 abbrev pub stage_over : List Column → StageText → Result Stage PlanRule
-stage_over columns text = stage_unless (first_failing (rules_of columns text)) (record { step = step_of columns text; columns = columns_after columns text })
+stage_over columns text =
+    stage_unless (find (λ t. t.fails) (rules_of columns text)) (record { step = step_of columns text; columns = columns_after columns text })
 
 -- a stage before those behind it, or the first fault
 abbrev pub with_stage : ℕ → Result Stage PlanRule → Result (List Stage) PlanFault → Result (List Stage) PlanFault

@@ -1,5 +1,5 @@
 -- The report of a lawful array: `ok`, and then a line for each node in preorder.
-use Rattle.std.specs.Prelude.{ℕ, ℤ, pos, List, [], ◌∷◌, ◌++◌, codes, Option, None, Some}
+use Rattle.std.specs.Prelude.{ℕ, pos, List, [], ◌∷◌, ◌++◌, codes, Option, None, Some}
 use Rattle.std.specs.List.{flat_map}
 use Rattle.std.specs.Fmt.{signed_decimal}
 use Rattle.fmt_string.specs.promise.Spelling.{spelling_of}
@@ -12,23 +12,14 @@ use Rattle.data_types.specs.promise.Ways.{Steps}
 use Rattle.layout_rules.specs.promise.Walk.{Visit, visits}
 use Rattle.tree_text.specs.promise.TreeText.{token, spaced}
 
--- the way to a node, its format, its length and the number of its null items
-abbrev pub report_line : Steps → List ℕ → ℤ → ℤ → List ℕ
-report_line path format length nulls = spaced (way_text path ∷ token (Some format) ∷ signed_decimal length ∷ signed_decimal nulls ∷ []) ++ (10 ∷ [])
-
--- the format is the canonical one of the node's type
-abbrev pub node_line : Steps → Node → List ℕ
-node_line path node = report_line path (spelling_of node.kind) node.own.length (pos (null_items (layout_of node.kind) node.own))
-
--- no node of a lawful array is released
+-- the way to a node, the canonical format of its type, its length and the number of its null items; no node of a lawful
+-- array is released
 abbrev pub visit_text : Steps → Option Node → List ℕ
 visit_text path None = []
-visit_text path (Some node) = node_line path node
-
--- the lines of all nodes
-abbrev pub visits_text : List Visit → List ℕ
-visits_text visits = flat_map (λ (visit : Visit). visit_text visit.path visit.node) visits
+visit_text path (Some node) =
+    spaced (way_text path ∷ token (Some (spelling_of node.kind)) ∷ signed_decimal node.own.length
+    ∷ signed_decimal (pos (null_items (layout_of node.kind) node.own)) ∷ []) ++ (10 ∷ [])
 
 -- the whole report of an array under its types
 abbrev pub ReportOf : KindTree → ArrayTree → List ℕ
-ReportOf typed array = codes "ok" ++ (10 ∷ []) ++ visits_text (visits typed [] array)
+ReportOf typed array = codes "ok" ++ (10 ∷ []) ++ flat_map (λ (visit : Visit). visit_text visit.path visit.node) (visits typed [] array)

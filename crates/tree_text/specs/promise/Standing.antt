@@ -154,10 +154,6 @@ first_fault [] (line ∷ rest) number = Some number
 first_fault (place ∷ places) [] number = Some number
 first_fault (place ∷ places) (line ∷ rest) number = fault_or number (option_map (λ parts. first_fault (parts ++ places) rest (number + 1)) (next place line))
 
--- what a text begins with
-abbrev pub all_places : List Place
-all_places = AtFirst ∷ AtSchema 1 ∷ AtArray 1 ∷ []
-
 -- This line of the text, counted from 1, is the first that isn't allowed at its place, or is missing there.
 abbrev pub TreeLineIs : List ℕ → ℕ → Type 0
-TreeLineIs bytes number = first_fault all_places (lines bytes) 1 ≡ Some number
+TreeLineIs bytes number = first_fault (AtFirst ∷ AtSchema 1 ∷ AtArray 1 ∷ []) (lines bytes) 1 ≡ Some number

@@ -60,10 +60,6 @@ abbrev pub buffer_text : Option (List ℕ) → List ℕ
 buffer_text None = codes "B ~"
 buffer_text (Some bytes) = codes "B =" ++ hex_text bytes
 
--- the line of a node's buffer
-abbrev pub buffer_line : Option Buffer → List ℕ
-buffer_line buffer = buffer_text (bytes_in buffer)
-
 -- ---- trees: a node's line, an array's buffers, then the children in order, then the dictionary
 
 -- 1 where there is a dictionary, and else 0
@@ -88,30 +84,12 @@ abbrev mutual
   lines_of_maybe released own_lines absent = []
   lines_of_maybe released own_lines (present t) = lines_of released own_lines t
 
--- the lines of a live node's own
-abbrev pub schema_node_lines : SchemaMembers → ℕ → ℕ → List (List ℕ)
-schema_node_lines own children dictionaries = schema_line own children dictionaries ∷ []
-
 abbrev pub array_node_lines : ArrayMembers → ℕ → ℕ → List (List ℕ)
-array_node_lines own children dictionaries = array_line (numbers_of own) children dictionaries ∷ map buffer_line own.buffers
+array_node_lines own children dictionaries = array_line (numbers_of own) children dictionaries ∷ map (λ buffer. buffer_text (bytes_in buffer)) own.buffers
 
--- the line of a released node
-abbrev pub released_schema : List ℕ
-released_schema = codes "S !"
-
-abbrev pub released_array : List ℕ
-released_array = codes "A !"
-
--- the lines of a schema tree, and those of an array tree
-abbrev pub schema_lines : SchemaTree → List (List ℕ)
-schema_lines t = lines_of released_schema schema_node_lines t
-
-abbrev pub array_lines : ArrayTree → List (List ℕ)
-array_lines t = lines_of released_array array_node_lines t
-
--- the lines of a text: its first, the schema tree, the array tree
+-- the lines of a text: its first, those of the schema tree, and those of the array tree; `!` says that a node is released
 abbrev pub tree_lines : SchemaTree → ArrayTree → List (List ℕ)
-tree_lines schema array = codes "tree 1" ∷ (schema_lines schema ++ array_lines array)
+tree_lines schema array = codes "tree 1" ∷ (lines_of (codes "S !") (λ own children dictionaries. schema_line own children dictionaries ∷ []) schema ++ lines_of (codes "A !") array_node_lines array)
 
 -- ---- what has lines: a number's range, how many parts a node may have, and how deep a node may be
 
@@ -177,15 +155,9 @@ abbrev mutual
   MaybeFits NodeFits level absent = Unit {0}
   MaybeFits NodeFits level (present t) = TreeFits NodeFits level t
 
-abbrev pub SchemaFits : ℕ → SchemaTree → Type 0
-SchemaFits level t = TreeFits SchemaNodeFits level t
-
-abbrev pub ArrayFits : ℕ → ArrayTree → Type 0
-ArrayFits level t = TreeFits ArrayNodeFits level t
-
 -- The text is that of the two trees. `lines` are the parts that end with a line feed, before which one carriage return is
 -- no part of the line; the last line may end without either.
 pub record TreeIs (bytes : List ℕ) (schema : SchemaTree) (array : ArrayTree) : Type 0 where
   pub spelled : lines bytes ≡ tree_lines schema array
-  pub schema_fits : SchemaFits 1 schema
-  pub array_fits : ArrayFits 1 array
+  pub schema_fits : TreeFits SchemaNodeFits 1 schema
+  pub array_fits : TreeFits ArrayNodeFits 1 array

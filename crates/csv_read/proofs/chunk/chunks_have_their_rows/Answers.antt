@@ -1,6 +1,6 @@
 use Rattle.std.proofs.Common.{◌∙◌, length}
 use Rattle.csv_read.proofs.ChunkLaw.{all_values, columns-lawful, columns-long, columns-valued, rows-back, values-long}
-use Rattle.data_types.specs.promise.ColumnKinds.{types_of_columns}
+use Rattle.data_types.specs.ColumnKinds.{types_of_columns}
 use Rattle.csv_read.specs.Chunks.{column_arrays}
 use Rattle.csv_read.proofs.chunk.chunks_have_their_rows.Goals as goal
 

@@ -1,6 +1,6 @@
 use Rattle.std.proofs.Common.{◌≡◌, map, take}
 use Rattle.data_types.specs.ColumnView.{column_of}
-use Rattle.csv_model.specs.promise.Header.{header_columns}
+use Rattle.csv_model.specs.Header.{header_columns}
 use Rattle.stage_plan.specs.PlanWords.{texts}
 use Rattle.stage_plan.specs.promise.Entries.{entries_of}
 use Rattle.csv_read.proofs.columns.columns.Given as goal

@@ -3,7 +3,8 @@ use Rattle.std.specs.Str.{bytes_eq}
 use Rattle.data_types.specs.declared.kind.DataType.{DataType}
 use Rattle.stage_plan.specs.declared.types.TypeEntry.{TypeEntry}
 use Rattle.csv_model.specs.promise.Header.{kind_or_text, type_for}
-use Rattle.stage_plan.specs.promise.Entries.{entries_of, entry_of}
+use Rattle.stage_plan.specs.promise.Entries.{entries_of}
+use Rattle.stage_plan.specs.Entries.{entry_of}
 use Rattle.csv_read.proofs.Entries.{type-is}
 use Rattle.csv_read.proofs.Remaining.{find-hit, find-none}
 use Rattle.csv_read.proofs.columns.type_for.Goals as goal

@@ -2,7 +2,8 @@ use Rattle.std.proofs.Common.{◌≡◌, ◌∙◌, List, length, ℕ, Bool, tru
 use Rattle.std.specs.Prelude.{nat_le}
 use Rattle.data_types.specs.promise.Table.{Column}
 use Rattle.data_types.specs.Kinds.{KindOk}
-use Rattle.csv_model.specs.promise.Header.{header_columns, most_columns, names_fault}
+use Rattle.csv_model.specs.promise.Header.{most_columns}
+use Rattle.csv_model.specs.Header.{header_columns, names_fault}
 use Rattle.csv_model.specs.promise.Reading.{Record}
 use Rattle.unit_pass.specs.declared.no_memory.NoMemory.{NoMemory}
 use Rattle.stage_plan.specs.PlanWords.{texts}

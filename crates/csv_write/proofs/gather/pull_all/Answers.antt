@@ -3,7 +3,7 @@ use Rattle.std.proofs.Common.{arith, ◌≡◌, ◌≢◌, ◌+◌, ◌++◌, Er
 use Rattle.layout_rules.specs.promise.Values.{rows_of}
 use Rattle.layout_rules.specs.promise.Walk.{LayoutOk}
 use Rattle.data_types.specs.promise.ColumnKinds.{type_of_columns}
-use Rattle.csv_model.specs.promise.Text.{rows_text}
+use Rattle.csv_model.specs.Text.{rows_text}
 use Rattle.csv_write.specs.CsvTexts.{HasText}
 use Rattle.stream_face.specs.Codes.{enomem}
 use Rattle.stream_face.specs.Meaning.{meaning}

@@ -5,7 +5,7 @@ use Rattle.std.proofs.lemmas.Result.{on_ok_weaker}
 use Rattle.col_build.specs.Holding.{Adds}
 use Rattle.col_build.specs.Items.{value_of}
 use Rattle.data_types.specs.promise.Value.{Value, Whole, Bytes}
-use Rattle.stage_model.specs.promise.Dictionary.{has_bytes}
+use Rattle.stage_model.specs.Dictionary.{has_bytes}
 use Rattle.item_keys.specs.Distinct.{Numbers, texts_with}
 use Rattle.item_keys.specs.declared.distinct.Distinct.{Distinct}
 use Rattle.dict_stage.specs.Texts.{Codes, index_by, texts_after}

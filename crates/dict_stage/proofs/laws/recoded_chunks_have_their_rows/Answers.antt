@@ -1,6 +1,6 @@
 use Rattle.std.proofs.Common.{◌∙◌}
 use Rattle.std.proofs.lemmas.List.{length-map}
-use Rattle.data_types.specs.promise.ColumnKinds.{type_of_column, types_of_columns}
+use Rattle.data_types.specs.ColumnKinds.{type_of_column, types_of_columns}
 use Rattle.dict_stage.proofs.Remade.{chunk-after}
 use Rattle.dict_stage.proofs.laws.recoded_chunks_have_their_rows.Goals as goal
 

@@ -2,7 +2,7 @@ use Rattle.std.proofs.Common.{◌<◌, ℕ, length, arith}
 use Rattle.std.proofs.lemmas.List.{length-map}
 use Rattle.tree_model.specs.promise.TreeParts.{children_of}
 use Rattle.raw_array.specs.promise.Members.{ArrayTree}
-use Rattle.data_types.specs.promise.ColumnKinds.{type_of_column, types_of_columns}
+use Rattle.data_types.specs.ColumnKinds.{type_of_column, types_of_columns}
 use Rattle.stages.specs.Children.{ShowsChildren}
 use Rattle.stages.proofs.StructChildren.{StructLaws, shown}
 use Rattle.dict_stage.specs.Recoded.{HasPlace}

@@ -2,7 +2,8 @@ use Rattle.std.proofs.Common.{length, rules, ◌≡◌, ◌<◌, true, false}
 use Rattle.std.proofs.lemmas.Bool.{false≢true, iff_false}
 use Rattle.raw_array.specs.promise.Members.{members_of}
 use Rattle.layout_rules.specs.promise.Layout.{buffer_count}
-use Rattle.layout_rules.specs.promise.Rules.{buffer_absent, buffer_short}
+use Rattle.layout_rules.specs.promise.Rules.{buffer_absent}
+use Rattle.layout_rules.specs.Rules.{buffer_short}
 use Rattle.layout_rules.proofs.Firsts.{first_below-none, first_below-none_at}
 use Rattle.layout_check.proofs.buffers.buffers_pass.Goals as goal
 

@@ -1,7 +1,7 @@
 use Rattle.std.proofs.Common.{length, rules, ◌≡◌, ◌<◌, None, Some, sym}
 use Rattle.raw_array.specs.promise.Members.{members_of}
 use Rattle.layout_rules.specs.promise.Layout.{buffer_count}
-use Rattle.layout_rules.specs.promise.Rules.{buffer_short}
+use Rattle.layout_rules.specs.Rules.{buffer_short}
 use Rattle.layout_rules.proofs.Firsts.{first_below-none, first_below-some}
 use Rattle.layout_check.proofs.buffers.buffers_short.Goals as goal
 

@@ -1,7 +1,8 @@
 use Rattle.std.proofs.Common.{◌≡◌, ◌<◌, ◌∙◌, ℕ, None, length, refl, subst, sym, arith}
 use Rattle.raw_array.specs.promise.Members.{members_of}
 use Rattle.layout_rules.specs.promise.Layout.{items, end, bytes}
-use Rattle.layout_rules.specs.promise.Rules.{not_text, first_below}
+use Rattle.layout_rules.specs.promise.Rules.{first_below}
+use Rattle.layout_rules.specs.Rules.{not_text}
 use Rattle.layout_rules.proofs.Firsts.{first_below-none, first_below-some}
 use Rattle.layout_check.proofs.Loops.{at_last}
 use Rattle.layout_check.proofs.Readable.{need_some, end_some}

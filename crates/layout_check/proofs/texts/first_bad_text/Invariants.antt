@@ -1,6 +1,7 @@
 use Rattle.std.proofs.Common.{◌≡◌, None}
 use Rattle.raw_array.specs.promise.Members.{members_of}
-use Rattle.layout_rules.specs.promise.Rules.{not_text, first_below}
+use Rattle.layout_rules.specs.promise.Rules.{first_below}
+use Rattle.layout_rules.specs.Rules.{not_text}
 use Rattle.layout_check.proofs.texts.first_bad_text.Given as goal
 
 abbrev pub invariant-loop-i : goal.invariant-loop-i

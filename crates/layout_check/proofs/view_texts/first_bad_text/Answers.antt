@@ -3,7 +3,7 @@ use Rattle.layout_rules.proofs.TextData.{items_lie}
 use Rattle.std.proofs.Common.{rules, ◌≡◌, ◌<◌, Some, sym, arith}
 use Rattle.raw_array.specs.promise.Members.{members_of}
 use Rattle.layout_rules.specs.promise.Layout.{items}
-use Rattle.layout_rules.specs.promise.Rules.{view_not_text}
+use Rattle.layout_rules.specs.Rules.{view_not_text}
 use Rattle.layout_rules.proofs.Firsts.{first_below-some}
 use Rattle.layout_check.proofs.view_texts.first_bad_text.Goals as goal
 

@@ -1,7 +1,7 @@
 use Rattle.std.proofs.Common.{rules, ◌≡◌, ◌<◌, Some, sym}
 use Rattle.raw_array.specs.promise.Members.{members_of}
 use Rattle.layout_rules.specs.promise.Layout.{items}
-use Rattle.layout_rules.specs.promise.Rules.{misplaced}
+use Rattle.layout_rules.specs.Rules.{misplaced}
 use Rattle.layout_rules.proofs.Firsts.{first_below-some}
 use Rattle.layout_check.proofs.views.first_misplaced.Goals as goal
 

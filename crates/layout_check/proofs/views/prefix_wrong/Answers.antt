@@ -1,6 +1,7 @@
 use Rattle.std.proofs.Common.{◌≡◌, ◌+◌, ◌≤◌, ◌&&◌, ◌==◌, ℕ, ℤ, pos, not, Bool, true, ap, subst, sym, ◌∙◌, arith}
 use Rattle.raw_array.specs.promise.Members.{members_of}
-use Rattle.layout_rules.specs.promise.Views.{view_length, view_prefix, view_data, is_long}
+use Rattle.layout_rules.specs.promise.Views.{view_length, view_data, is_long}
+use Rattle.layout_rules.specs.Views.{view_prefix}
 use Rattle.layout_rules.specs.promise.Rules.{fault_if}
 use Rattle.layout_check.proofs.Casts.{is_longer-gt}
 use Rattle.data_types.specs.promise.Packed.{number_at}

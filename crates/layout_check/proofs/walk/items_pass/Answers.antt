@@ -2,7 +2,8 @@ use Rattle.std.proofs.Common.{◌≡◌, ◌&&◌, true, rules, sym, ◌∙◌, 
 use Rattle.std.proofs.lemmas.Bool.{and_parts}
 use Rattle.std.specs.Prelude.{is_none}
 use Rattle.layout_rules.specs.declared.rule.LayoutRule.TheVariants.{ChildShort, NullCount, ViewPlace, ViewPrefix, NotText, IndexRange, WindowTooLong}
-use Rattle.layout_rules.specs.promise.Rules.{fails, item_rules}
+use Rattle.layout_rules.specs.promise.Rules.{fails}
+use Rattle.layout_rules.specs.Rules.{item_rules}
 use Rattle.layout_check.specs.NodeView.{live_node}
 use Rattle.layout_check.proofs.Passes.{none-rules, held, held-last, node}
 use Rattle.layout_check.proofs.walk.items_pass.Goals.{then-is_none, else-is_none, then-is_none-2, else-is_none-2, then-views_pass, else-views_pass}

@@ -1,7 +1,7 @@
 use Rattle.std.proofs.Common.{◌≡◌, subst, arith}
 use Rattle.std.specs.Prelude.{is_none}
 use Rattle.raw_array.specs.promise.Members.{ArrayTree}
-use Rattle.layout_rules.specs.promise.Rules.{buffer_rules, item_rules}
+use Rattle.layout_rules.specs.Rules.{buffer_rules, item_rules}
 use Rattle.layout_check.specs.NodeView.{live_node}
 use Rattle.layout_rules.specs.Walk.{rules_fault}
 use Rattle.layout_check.proofs.Passes.{none-own}

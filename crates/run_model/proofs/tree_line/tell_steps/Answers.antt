@@ -3,7 +3,7 @@ use Rattle.std.proofs.Math.Seq.{take-length}
 use Rattle.std.proofs.KnownBytes.{Appends-nil, Appends-trans}
 use Rattle.std.specs.Io.KnownBytes.{Appends}
 use Rattle.std.specs.List.{flat_map}
-use Rattle.data_types.specs.promise.WayTexts.{step_text}
+use Rattle.data_types.specs.WayTexts.{step_text}
 use Rattle.run_model.proofs.Pieces.{first-then, says-in-part}
 use Rattle.run_model.proofs.TreeLines.{steps-around, steps-push}
 use Rattle.run_model.proofs.tree_line.tell_steps.Goals as goal

@@ -1,7 +1,7 @@
 use Rattle.std.proofs.Common.{◌≤◌, take}
 use Rattle.std.specs.Io.KnownBytes.{Appends}
 use Rattle.std.specs.List.{flat_map}
-use Rattle.data_types.specs.promise.WayTexts.{step_text}
+use Rattle.data_types.specs.WayTexts.{step_text}
 use Rattle.run_model.proofs.tree_line.tell_steps.Given as goal
 
 -- the sink took the steps so far

@@ -1,11 +1,11 @@
 use Rattle.std.proofs.lemmas.Grind.{common_steps}
 use Rattle.std.proofs.Common.{arith, ◌≡◌, ℕ, IfOk, List, [], length, get_or, drop, sym, ◌∙◌, ap, subst}
-use Rattle.csv_model.specs.promise.Text.{header_text}
+use Rattle.csv_model.specs.Text.{header_text}
 use Rattle.csv_write.specs.CsvTexts.{HasText}
 use Rattle.field_codec.specs.TextColumns.{HaveTexts}
 use Rattle.stage_model.specs.Links.{last_columns}
 use Rattle.csv_model.specs.promise.Text.{table_text}
-use Rattle.data_types.specs.promise.Parts.{joined_rows}
+use Rattle.data_types.specs.Parts.{joined_rows}
 use Rattle.data_types.specs.promise.Table.{Column}
 use Rattle.stage_model.specs.promise.Links.{Whole}
 use Rattle.stage_model.specs.promise.Stages.{table}

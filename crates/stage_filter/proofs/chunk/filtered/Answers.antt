@@ -8,7 +8,8 @@ use Rattle.data_types.specs.promise.KindTrees.{KindTree}
 use Rattle.layout_rules.specs.promise.Values.{rows_of}
 use Rattle.arr_import.specs.Window.{IsStruct}
 use Rattle.stage_model.specs.promise.Stages.{rows_after}
-use Rattle.stage_model.specs.promise.Traffic.{Moved, table_blocks}
+use Rattle.stage_model.specs.promise.Traffic.{Moved}
+use Rattle.stage_model.specs.Traffic.{table_blocks}
 use Rattle.stage_model.specs.declared.stage.Step.TheVariants as steps
 use Rattle.stage_filter.specs.Filters.{passing_numbers}
 use Rattle.stage_filter.proofs.LikeChunks.{LikeLaws, can-like}

@@ -6,7 +6,8 @@ use Rattle.tree_model.specs.promise.TreeData.{trees}
 use Rattle.tree_model.specs.Tree.{Depth, depth_of_all}
 use Rattle.raw_array.specs.promise.Members.{Cost}
 use Rattle.raw_array.specs.Members.{cost_of_all}
-use Rattle.data_types.specs.promise.ColumnKinds.{type_of_columns, type_of_kind, types_of_columns}
+use Rattle.data_types.specs.promise.ColumnKinds.{type_of_columns, type_of_kind}
+use Rattle.data_types.specs.ColumnKinds.{types_of_columns}
 use Rattle.stage_filter.specs.Kept.{rows_at}
 use Rattle.stage_filter.specs.Moving.{AreFiltered}
 use Rattle.stage_filter.proofs.columns.+filtered.Given as goal

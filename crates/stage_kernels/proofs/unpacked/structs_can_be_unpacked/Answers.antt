@@ -1,5 +1,5 @@
 use Rattle.std.proofs.Common.{arith}
-use Rattle.data_types.specs.promise.ColumnKinds.{types_of_columns}
+use Rattle.data_types.specs.ColumnKinds.{types_of_columns}
 use Rattle.stage_model.specs.promise.Typing.{no_column}
 use Rattle.stages.proofs.StructChildren.{StructLaws}
 use Rattle.stage_kernels.proofs.UnpackedChildren.{few-columns, few-rows, shown-inner, table-columns}

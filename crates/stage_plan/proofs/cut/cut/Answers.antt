@@ -1,5 +1,5 @@
 use Rattle.std.proofs.Common.{◌∙◌, ap, sym, option_map, Some}
-use Rattle.stage_model.specs.promise.StageGrammar.{cut_behind}
+use Rattle.stage_model.specs.StageGrammar.{cut_behind}
 use Rattle.stage_plan.proofs.StageCuts.{cut-parts}
 use Rattle.stage_plan.proofs.cut.cut.Goals as goal
 

@@ -1,7 +1,7 @@
 use Rattle.std.proofs.Common.{◌≡◌, ◌∙◌, ◌++◌, ap, sym, subst, arith, [], ◌∷◌, List, ℕ}
 use Rattle.data_types.specs.Parts.{AreWithin}
 use Rattle.stage_model.proofs.Numbers.{others-below, within}
-use Rattle.stage_model.specs.promise.Typing.{others}
+use Rattle.stage_model.specs.Typing.{others}
 use Rattle.stage_plan.proofs.PlanLists.{others_same, others_with}
 use Rattle.stage_plan.proofs.places.others.Goals as goal
 use Rattle.stage_plan.proofs.places.others.Goals.{then-not-contains+in_ok-push, else-not-contains}

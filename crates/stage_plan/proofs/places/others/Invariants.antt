@@ -1,5 +1,5 @@
 use Rattle.std.proofs.Common.{◌≡◌}
-use Rattle.stage_model.specs.promise.Typing.{others}
+use Rattle.stage_model.specs.Typing.{others}
 use Rattle.stage_plan.proofs.places.others.Given as goal
 
 abbrev pub invariant-loop-place : goal.invariant-loop-place

@@ -1,5 +1,6 @@
 use Rattle.std.proofs.Common.{rules, ◌≡◌, ◌∙◌, Option, Some, None, Err, List, ℕ, ap, sym, refl}
-use Rattle.stage_model.specs.promise.StageGrammar.{StageWord, cut_at, equals_sign, read_by, stage_cut, stage_words, word_named}
+use Rattle.stage_model.specs.promise.StageGrammar.{StageWord, cut_at, equals_sign, read_by, stage_cut, stage_words}
+use Rattle.stage_model.specs.StageGrammar.{word_named}
 use Rattle.stage_plan.specs.StageWords.{lone_fault}
 use Rattle.stage_plan.proofs.stages.read_stage.Goals as goal
 

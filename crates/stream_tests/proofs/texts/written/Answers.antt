@@ -1,6 +1,6 @@
 use Rattle.std.proofs.Common.{◌++◌, ◌∙◌, map, ap}
 use Rattle.data_types.specs.ColumnView.{column_of}
-use Rattle.csv_model.specs.promise.Text.{rows_text}
+use Rattle.csv_model.specs.Text.{rows_text}
 use Rattle.arr_import.specs.Cols.{window_of}
 use Rattle.csv_write.specs.CsvTexts.{rows_in}
 use Rattle.stream_tests.proofs.texts.written.Goals as goal

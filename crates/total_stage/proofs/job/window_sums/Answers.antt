@@ -8,7 +8,7 @@ use Rattle.layout_rules.specs.promise.Values.{rows_of, tree_items}
 use Rattle.arr_import.specs.Cols.{window_of}
 use Rattle.arr_import.specs.Window.{Window, child_window, whole}
 use Rattle.column_fill.proofs.Counts.{count-is}
-use Rattle.stage_model.specs.promise.Stages.{numbers_at}
+use Rattle.stage_model.specs.Stages.{numbers_at}
 use Rattle.total_stage.specs.Sums.{rows_between}
 use Rattle.total_stage.specs.Totals.{AreTotals}
 use Rattle.total_stage.specs.declared.numbers.Totals.{Totals}

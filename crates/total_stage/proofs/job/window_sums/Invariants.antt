@@ -2,7 +2,7 @@ use Rattle.std.proofs.Common.{◌≡◌, ℕ, ◌<◌, ◌≤◌, length, get_or
 use Rattle.std.specs.Vec.{vec_capacity}
 use Rattle.data_types.specs.promise.TypedView.{typed_of}
 use Rattle.layout_rules.specs.promise.Values.{rows_of}
-use Rattle.stage_model.specs.promise.Stages.{numbers_at}
+use Rattle.stage_model.specs.Stages.{numbers_at}
 use Rattle.total_stage.specs.Sums.{rows_between}
 use Rattle.total_stage.specs.Totals.{AreTotals}
 use Rattle.total_stage.specs.declared.numbers.Totals.{Totals}

@@ -1,6 +1,6 @@
 use Rattle.std.proofs.Common.{◌≡◌, ℕ, List, map, take}
 use Rattle.data_types.specs.promise.Table.{Row}
-use Rattle.stage_model.specs.promise.Stages.{totals_row}
+use Rattle.stage_model.specs.Stages.{totals_row}
 use Rattle.total_stage.specs.Sums.{AreSums}
 use Rattle.total_stage.specs.Totals.{number_value}
 use Rattle.total_stage.proofs.row.row_values.Given as goal

@@ -1,5 +1,5 @@
 use Rattle.std.proofs.Common.{arith, ◌<◌, length, get_or, refl}
-use Rattle.stage_model.specs.promise.Stages.{numbers_at}
+use Rattle.stage_model.specs.Stages.{numbers_at}
 use Rattle.total_stage.proofs.Joining.{few-at, joined-all, joined-more, joined-none}
 use Rattle.total_stage.proofs.sums.join_sums.Goals as goal
 

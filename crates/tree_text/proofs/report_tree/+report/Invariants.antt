@@ -4,7 +4,7 @@ use Rattle.tree_model.specs.Tree.{Depth, depth_of_all, depth_of_maybe}
 use Rattle.data_types.specs.promise.TypedView.{typed_of}
 use Rattle.data_types.specs.TypedView.{dict_in}
 use Rattle.data_types.specs.promise.Ways.{steps_of}
-use Rattle.tree_text.specs.promise.Report.{visits_text}
+use Rattle.tree_text.specs.Report.{visits_text}
 use Rattle.tree_text.specs.Below.{children_visits}
 use Rattle.tree_text.proofs.report_tree.+report.Given as goal
 

@@ -1,7 +1,7 @@
 use Rattle.std.proofs.Common.{◌∙◌, ◌++◌, ap}
 use Rattle.arr_import.specs.Cols.{window_of}
 use Rattle.run_ends.specs.ColumnRuns.{values_in}
-use Rattle.data_types.specs.promise.NumberedTexts.{numbered_line}
+use Rattle.data_types.specs.NumberedTexts.{numbered_line}
 use Rattle.tree_top.proofs.Running.{inside-window, item-there}
 use Rattle.tree_top.proofs.runs.push_run.Goals as goal
 

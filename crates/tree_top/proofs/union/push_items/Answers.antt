@@ -1,7 +1,7 @@
 use Rattle.std.proofs.Common.{sym}
 use Rattle.layout_rules.specs.promise.Values.{each}
 use Rattle.union_cols.specs.UnionCols.{array_in, kinds_in}
-use Rattle.data_types.specs.promise.NumberedTexts.{numbered_line}
+use Rattle.data_types.specs.NumberedTexts.{numbered_line}
 use Rattle.value_text.proofs.Parts.{appended}
 use Rattle.union_cols.specs.promise.Unions.{union_item}
 use Rattle.tree_top.specs.promise.UnionAnswer.{numbered_item}

@@ -6,7 +6,8 @@ use Rattle.data_types.specs.promise.Packed.{meant, number_at}
 use Rattle.data_types.specs.promise.Value.Value.{Bytes}
 use Rattle.raw_array.specs.promise.Members.{members_of}
 use Rattle.layout_rules.specs.promise.Layout.{bytes, data_place, natural}
-use Rattle.layout_rules.specs.promise.Views.{data_in_view, data_named, is_long, view_buffer, view_length, view_number, view_offset}
+use Rattle.layout_rules.specs.promise.Views.{data_named, is_long, view_buffer, view_length, view_number, view_offset}
+use Rattle.layout_rules.specs.Views.{data_in_view}
 use Rattle.value_text.specs.Escapes.{CountsEscapes}
 use Rattle.value_text.specs.Lengths.{text_length}
 use Rattle.value_text.proofs.views.view_length.Goals as goal

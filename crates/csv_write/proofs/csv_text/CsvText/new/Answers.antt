@@ -1,5 +1,5 @@
 use Rattle.std.proofs.Common.{rules, ◌≡◌, [], map, subst, sym}
-use Rattle.csv_model.specs.promise.Text.{header_text}
+use Rattle.csv_model.specs.Text.{header_text}
 use Rattle.data_types.specs.ColumnView.{column_of}
 use Rattle.csv_write.specs.Lines.{HasLines, MemoryWriter}
 use Rattle.csv_write.proofs.csv_text.CsvText.new.Goals as goal

@@ -1,7 +1,7 @@
 use Rattle.std.proofs.Common.{◌≡◌, ◌∙◌, ◌+◌, ◌++◌, ◌∷◌, [], Some, Bool, true, false, not, List, ℕ, length, refl, sym, ap, subst, arith, length-append}
 use mir.Val.{bool_byte}
 use Rattle.std.specs.Prelude.{if◌then◌else◌}
-use Rattle.stage_model.specs.promise.Dictionary.{has_bytes}
+use Rattle.stage_model.specs.Dictionary.{has_bytes}
 use Rattle.item_keys.specs.Distinct.{Numbers, number_of, texts_with}
 use Rattle.row_groups.specs.Numbering.{AreKeys, IsNumber, IsNumbering, Key, keys_with, shifted}
 use Rattle.row_groups.specs.declared.numbering.Numbering.{Numbering}

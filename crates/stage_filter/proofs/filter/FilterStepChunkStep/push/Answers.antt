@@ -5,7 +5,8 @@ use Rattle.data_types.specs.declared.kind.ColumnType.{ColumnType}
 use Rattle.data_types.specs.promise.ColumnKinds.{type_of_columns}
 use Rattle.unit_pass.specs.promise.Tally.{risen}
 use Rattle.raw_array.specs.promise.Members.{Cost}
-use Rattle.stage_model.specs.promise.Traffic.{Moved, table_blocks, table_nodes}
+use Rattle.stage_model.specs.promise.Traffic.{Moved, table_nodes}
+use Rattle.stage_model.specs.Traffic.{table_blocks}
 use Rattle.stage_filter.specs.Filters.{CanFilter, passing_rows}
 use Rattle.stage_filter.specs.Plain.{most_of_columns}
 use Rattle.stage_filter.proofs.Filtered.{filter-gives, ready, ready-like, same, same-chunk}

@@ -3,10 +3,10 @@ use Rattle.std.specs.Prelude.{Bool, None, Some, Vec}
 use Rattle.std.specs.Global.{Global}
 use Rattle.csv_read.specs.Chunks.{chunk_blocks, chunk_of}
 use Rattle.data_types.specs.ColumnView.{column_of}
-use Rattle.data_types.specs.promise.Parts.{joined_rows}
+use Rattle.data_types.specs.Parts.{joined_rows}
 use Rattle.data_types.specs.declared.kind.ColumnType.{ColumnType}
 use Rattle.unit_pass.specs.promise.Tally.{risen}
-use Rattle.stage_model.specs.promise.Stages.{totals_row}
+use Rattle.stage_model.specs.Stages.{totals_row}
 use Rattle.stage_model.specs.promise.Traffic.{made_blocks, made_nodes}
 use Rattle.stage_model.specs.declared.stage.Step.TheVariants as steps
 use Rattle.stages.specs.Steps.{GivesOut}

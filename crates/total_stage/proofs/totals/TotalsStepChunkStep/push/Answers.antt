@@ -1,7 +1,7 @@
 use Rattle.std.proofs.Common.{arith, ◌≡◌, ◌∙◌, ◌≤◌, ◌*◌, ◌++◌, ◌∷◌, List, length, ℕ, sym, subst}
 use Rattle.std.proofs.Math.Nat.{mul-le-mul_right}
 use Rattle.std.proofs.lemmas.List.{with_items_is}
-use Rattle.data_types.specs.promise.Parts.{joined_rows}
+use Rattle.data_types.specs.Parts.{joined_rows}
 use Rattle.data_types.specs.promise.Table.{Row}
 use Rattle.data_types.specs.promise.TypedView.{typed_of}
 use Rattle.raw_array.specs.promise.Members.{Cost}
