@@ -5,7 +5,8 @@ use Rattle.tree_model.specs.promise.TreeData.{Live, trees, absent}
 use Rattle.raw_array.specs.promise.Members.{ArrayTree}
 use Rattle.facts.specs.Arrays.{flat, int32, text, buffer, members, leaf}
 use Rattle.run_ends.specs.promise.Runs.{RunTree}
-use Rattle.run_ends.specs.promise.RunRules.{Rule, RunsFound}
+use Rattle.run_ends.specs.promise.RunRules.{Rule}
+use Rattle.run_ends.specs.RunRules.{RunsFound}
 
 -- texts behind ends of 32 bits, and of 64
 abbrev pub short_runs : RunTree

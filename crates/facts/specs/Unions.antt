@@ -11,7 +11,8 @@ use Rattle.facts.specs.Standard.{words}
 use Rattle.data_types.specs.ColumnKinds.{table_type}
 use Rattle.data_types.specs.promise.KindTrees.{KindTree}
 use Rattle.union_cols.specs.promise.Unions.{UnionItem, UnionTree, union_value}
-use Rattle.union_cols.specs.promise.UnionRules.{Rule, UnionFound}
+use Rattle.union_cols.specs.promise.UnionRules.{Rule}
+use Rattle.union_cols.specs.UnionRules.{UnionFound}
 
 -- numbers with the id 5, and bytes with the id 7
 abbrev pub numbers_and_bytes : Bool → UnionTree

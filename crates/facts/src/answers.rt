@@ -3,7 +3,7 @@ ghost use Rattle.std.specs.Prelude.{◌∷◌, ◌++◌, [], codes};
 ghost use Rattle.run_model.specs.promise.Answer.{Fault, Table, Text};
 ghost use Rattle.facts.specs.Answers.{asking};
 ghost use Rattle.run_model.specs.declared.fault.RunFault.TheVariants as run;
-ghost use Rattle.run_model.specs.promise.RunAnswer.{AnswersBytes};
+ghost use Rattle.run_model.specs.RunAnswer.{AnswersBytes};
 
 /// The answers to texts that are written out here.
 pub fn text_answers()

@@ -5,7 +5,7 @@ ghost use Rattle.data_types.specs.ColumnKinds.{table_type};
 ghost use Rattle.data_types.specs.promise.Value.{Null, Whole, Bytes, Items, values};
 ghost use Rattle.list_cols.specs.declared.fault.ListFault.TheVariants.{WrongKind};
 ghost use Rattle.list_cols.specs.promise.Faults.{explode_fault};
-ghost use Rattle.list_cols.specs.promise.ListTrees.{list_offsets};
+ghost use Rattle.list_cols.specs.ListTrees.{list_offsets};
 ghost use Rattle.list_cols.specs.promise.NestFaults.{nest_fault};
 ghost use Rattle.list_cols.specs.promise.Nested.{Explode, Nest};
 ghost use Rattle.tree_top.specs.declared.fault.TreeRunFault.TheVariants as run;

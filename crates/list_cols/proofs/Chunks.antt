@@ -17,7 +17,8 @@ use Rattle.layout_rules.specs.promise.Rules.{items_need}
 use Rattle.layout_rules.specs.promise.Values.{each, field_items, readers, row_items, rows_of, tree_items, value_at}
 use Rattle.layout_rules.specs.promise.Walk.{ChunkOk, LayoutOk}
 use Rattle.column_fill.specs.Gathered.{values_of_runs}
-use Rattle.list_cols.specs.promise.Exploded.{exploded_kinds, item_kind}
+use Rattle.list_cols.specs.promise.Exploded.{exploded_kinds}
+use Rattle.list_cols.specs.Exploded.{item_kind}
 use Rattle.list_cols.specs.Listed.{listed, run_of}
 use Rattle.list_cols.specs.promise.Nested.{Explode, items_in}
 use Rattle.list_cols.specs.Spreading.{chunk_runs, list_at}

@@ -10,8 +10,7 @@ use Rattle.raw_schema.specs.promise.Members.{SchemaMembers, SchemaTree}
 use Rattle.data_types.specs.promise.KindTrees.{KindTree, kind_in}
 use Rattle.schema_check.specs.promise.Schemas.{KidsTyped, NodeIs, TypedFrom, TypedOf}
 use Rattle.arr_export.specs.ArrayTrees.{flat_type}
-use Rattle.list_cols.specs.promise.Exploded.{item_kind}
-use Rattle.list_cols.specs.Exploded.{exploded_type}
+use Rattle.list_cols.specs.Exploded.{exploded_type, item_kind}
 use Rattle.list_cols.specs.Fields.{exploded_schema, item_field, renamed_field}
 
 -- its kinds have no children and no dictionary

@@ -11,7 +11,7 @@ use Rattle.layout_rules.specs.promise.Values.{each}
 use Rattle.arr_export.proofs.Each.{each-is}
 use Rattle.arr_export.proofs.Pieces.{length-le_bytes, length-pieces, number-there}
 use Rattle.data_types.specs.promise.Groups.{sums_from}
-use Rattle.list_cols.specs.promise.ListTrees.{joined, list_lengths, list_offsets}
+use Rattle.list_cols.specs.ListTrees.{joined, list_lengths, list_offsets}
 
 pub length-lengths : (lists : List (List Value)) → length (list_lengths lists) ≡ length lists
 length-lengths [] = refl

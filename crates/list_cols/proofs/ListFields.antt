@@ -20,8 +20,8 @@ use Rattle.layout_rules.specs.promise.Values.{rows_of}
 use Rattle.layout_rules.specs.promise.Walk.{ChunkOk}
 use Rattle.schema_check.specs.promise.Schemas.{KidsTyped, TypedFrom, TypedOf}
 use Rattle.arr_export.specs.ArrayTrees.{flat_type}
-use Rattle.list_cols.specs.promise.Exploded.{exploded_kinds, item_kind}
-use Rattle.list_cols.specs.Exploded.{exploded_array, exploded_type}
+use Rattle.list_cols.specs.promise.Exploded.{exploded_kinds}
+use Rattle.list_cols.specs.Exploded.{exploded_array, exploded_type, item_kind}
 use Rattle.list_cols.specs.promise.Faults.{explodes, first_wrong}
 use Rattle.column_fill.specs.promise.FlatColumns.{is_flat_column}
 use Rattle.list_cols.specs.Fields.{HasList, exploded_schema, item_field}

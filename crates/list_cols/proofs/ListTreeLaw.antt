@@ -27,8 +27,8 @@ use Rattle.layout_rules.proofs.NamedRules.{AreMet, none-fails}
 use Rattle.arr_export.proofs.NodeRules.{below-none, both-none, no-fault}
 use Rattle.arr_export.proofs.Steady.{first_some-append, steady}
 use Rattle.data_types.specs.promise.Groups.{sums_from}
-use Rattle.list_cols.specs.promise.ListTrees.{joined, list_lengths, list_members, list_offsets, list_tree}
-use Rattle.list_cols.specs.ListTrees.{FitLists, list_kind, list_value}
+use Rattle.list_cols.specs.promise.ListTrees.{list_members, list_tree}
+use Rattle.list_cols.specs.ListTrees.{FitLists, joined, list_kind, list_lengths, list_offsets, list_value}
 use Rattle.list_cols.proofs.ListEnds.{between-ends, length-offsets, offset-first, offset-is, offset-last, offsets-rise}
 
 from-start : (i : ℕ) → 0 + i ≡ i

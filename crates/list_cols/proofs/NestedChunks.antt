@@ -23,9 +23,10 @@ use Rattle.data_types.specs.promise.Groups.{distinct}
 use Rattle.data_types.specs.Groups.{order_of}
 use Rattle.row_groups.specs.Items.{items_from}
 use Rattle.list_cols.specs.ListTrees.{FitLists}
-use Rattle.list_cols.specs.promise.NestFaults.{nests}
+use Rattle.list_cols.specs.Faults.{nests}
 use Rattle.list_cols.specs.NestedGroups.{CanNest, grouped_lists, row_keys}
-use Rattle.list_cols.specs.promise.NestedTables.{kind_at, lists_of}
+use Rattle.list_cols.specs.promise.NestedTables.{lists_of}
+use Rattle.list_cols.specs.NestedTables.{kind_at}
 use Rattle.list_cols.proofs.Chunks.{ItemsLaw, PartsLaw, RootLaw, TopLaw, chunk-is, near, reaches, row-item}
 use Rattle.list_cols.proofs.Kids.{flat-dictionary, flat-form, none-wrong}
 use Rattle.list_cols.proofs.NestedRows.{all-lists, column-each, few-distinct, key-values, many-lists}

@@ -35,8 +35,8 @@ use Rattle.row_groups.specs.declared.groups.Groups.{Groups}
 use Rattle.list_cols.specs.promise.ListTrees.{list_tree}
 use Rattle.list_cols.specs.ListTrees.{FitLists}
 use Rattle.list_cols.specs.NestedGroups.{AreFirsts, AreGroups, AreRowGroups, CanNest, HasItems, grouped_lists, row_keys, run_at}
-use Rattle.list_cols.specs.promise.NestedTables.{keys_of, kind_at, lists_of, nested_column}
-use Rattle.list_cols.specs.NestedTables.{FitColumn}
+use Rattle.list_cols.specs.promise.NestedTables.{keys_of, lists_of, nested_column}
+use Rattle.list_cols.specs.NestedTables.{FitColumn, kind_at}
 use Rattle.list_cols.proofs.Kids.{IsLevel, kid-is, kid-ok, kids-are, level-live}
 use Rattle.list_cols.proofs.Chunks.{ItemsLaw, PartsLaw, RootLaw, TopLaw}
 use Rattle.list_cols.proofs.NestedChunks.{FlatLaw, IsFlatKid, flat-kid, kid-lists, kid-values, lists-fit}

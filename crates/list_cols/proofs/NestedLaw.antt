@@ -21,8 +21,8 @@ use Rattle.arr_export.proofs.TableLaw.{table-chunk, table-values}
 use Rattle.list_cols.specs.promise.ListTrees.{list_tree}
 use Rattle.list_cols.specs.ListTrees.{FitLists, list_kind, list_value}
 use Rattle.list_cols.specs.promise.Nested.{Nest, nested_value, rows_with}
-use Rattle.list_cols.specs.promise.NestedTables.{keys_of, kind_at, lists_of, nested_column, nested_table}
-use Rattle.list_cols.specs.NestedTables.{FitNested, nested_kind, nested_table_type}
+use Rattle.list_cols.specs.promise.NestedTables.{keys_of, lists_of, nested_column, nested_table}
+use Rattle.list_cols.specs.NestedTables.{FitNested, kind_at, nested_kind, nested_table_type}
 use Rattle.list_cols.proofs.ListTreeLaw.{list-lawful, list-values}
 
 pub map-each : {X Y : Type 0} → (f : X → Y) (g : ℕ → X) (a n : ℕ) → map f (each g a n) ≡ each (λ i. f (g i)) a n

@@ -12,7 +12,7 @@ use Rattle.layout_rules.specs.promise.Values.{each}
 use Rattle.column_fill.specs.Gathered.{values_at}
 use Rattle.data_types.specs.promise.Groups.{distinct, distinct_behind, same}
 use Rattle.data_types.specs.Groups.{order_of, places, places_of}
-use Rattle.list_cols.specs.promise.ListTrees.{joined, list_lengths}
+use Rattle.list_cols.specs.ListTrees.{joined, list_lengths}
 use Rattle.list_cols.specs.promise.Nested.{rows_with}
 use Rattle.list_cols.specs.NestedGroups.{grouped_lists}
 

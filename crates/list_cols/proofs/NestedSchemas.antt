@@ -12,8 +12,8 @@ use Rattle.data_types.specs.promise.KindTrees.{KindTree, kind_in}
 use Rattle.data_types.specs.KindTrees.{AllNodesOk, NodesOk, TypedOk}
 use Rattle.schema_check.specs.promise.Schemas.{KidsTyped, TypedOf}
 use Rattle.list_cols.specs.promise.Faults.{fault_of, first_wrong}
-use Rattle.list_cols.specs.Faults.{IsRefusedBy}
-use Rattle.list_cols.specs.promise.NestFaults.{is_nest_too_long, nest_fault, nests}
+use Rattle.list_cols.specs.Faults.{IsRefusedBy, nests}
+use Rattle.list_cols.specs.promise.NestFaults.{is_nest_too_long, nest_fault}
 use Rattle.list_cols.specs.declared.fault.ListFault.{ListFault}
 use Rattle.list_cols.specs.declared.fault.ListFault.TheVariants.{WrongKind, TooLong, NoMemory}
 use Rattle.list_cols.proofs.Kids.{flat-dictionary, flat-form, none-wrong}

@@ -17,8 +17,7 @@ use Rattle.arr_export.specs.ArrayTrees.{flat_type}
 use Rattle.list_cols.specs.Fields.{renamed_field}
 use Rattle.list_cols.specs.ListTrees.{list_kind}
 use Rattle.list_cols.specs.NestedFields.{item_name, list_field, list_format, nested_field, nested_schema}
-use Rattle.list_cols.specs.promise.NestedTables.{kind_at}
-use Rattle.list_cols.specs.NestedTables.{nested_kind, nested_type}
+use Rattle.list_cols.specs.NestedTables.{kind_at, nested_kind, nested_type}
 use Rattle.list_cols.proofs.FieldTypes.{IsFlatType}
 
 module _ (spelled : FormatIs list_format (kinds.List false)) where

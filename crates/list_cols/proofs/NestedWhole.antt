@@ -17,8 +17,8 @@ use Rattle.arr_export.proofs.Each.{length-each}
 use Rattle.list_cols.specs.promise.Faults.{most_named}
 use Rattle.list_cols.specs.promise.ListTrees.{list_tree}
 use Rattle.list_cols.specs.promise.NestFaults.{is_nest_too_long}
-use Rattle.list_cols.specs.promise.NestedTables.{keys_of, kind_at, lists_of, nested_array, nested_column}
-use Rattle.list_cols.specs.NestedTables.{FitColumn, FitNested}
+use Rattle.list_cols.specs.promise.NestedTables.{keys_of, lists_of, nested_column}
+use Rattle.list_cols.specs.NestedTables.{FitColumn, FitNested, kind_at, nested_array}
 use Rattle.list_cols.proofs.NestedLaw.{all-each, nested-length}
 use Rattle.list_cols.proofs.NestedRows.{few-distinct}
 

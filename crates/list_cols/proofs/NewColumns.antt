@@ -21,7 +21,8 @@ use Rattle.arr_export.specs.ValueColumns.{tree_of}
 use Rattle.column_fill.proofs.ColumnCosts.{column-cost, few-blocks}
 use Rattle.unit_pass.specs.promise.Tally.{risen}
 use Rattle.list_cols.specs.promise.Exploded.{blocks_in}
-use Rattle.list_cols.specs.promise.FlatTables.{columns_from, flat_column}
+use Rattle.list_cols.specs.promise.FlatTables.{columns_from}
+use Rattle.list_cols.specs.FlatTables.{flat_column}
 
 -- ---- the list of the columns
 

@@ -17,7 +17,8 @@ use Rattle.list_cols.specs.declared.fault.ListFault.TheVariants.{WrongKind, TooL
 use Rattle.list_cols.specs.promise.Exploded.{exploded_kinds}
 use Rattle.list_cols.specs.promise.Faults.{fault_of, is_too_long, is_too_wide, most_named}
 use Rattle.list_cols.specs.Faults.{IsRefusedBy}
-use Rattle.list_cols.specs.promise.FlatTables.{columns_from, flat_column}
+use Rattle.list_cols.specs.promise.FlatTables.{columns_from}
+use Rattle.list_cols.specs.FlatTables.{flat_column}
 use Rattle.list_cols.specs.promise.Nested.{Explode}
 use Rattle.list_cols.specs.Reaching.{IsLong}
 use Rattle.list_cols.specs.Spreading.{AllFit, spread_values}

@@ -1,8 +1,10 @@
--- What an answer of the code says of a fault.
-use Rattle.std.specs.Prelude.{◌≡◌, ◌≤◌, ◌<◌, ℕ, Option, None, Some}
+-- Which chunks aren't grouped, and of which the lists aren't spread out.
+use Rattle.std.specs.Prelude.{◌≡◌, ◌≤◌, ◌<◌, ℕ, Bool, Option, None, Some}
 use Rattle.list_cols.specs.declared.fault.ListFault.{ListFault}
 use Rattle.list_cols.specs.declared.fault.ListFault.TheVariants.{NoMemory}
 use Rattle.list_cols.specs.promise.Faults.{most_named}
+use Rattle.data_types.specs.promise.KindTrees.{KindTree}
+use Rattle.column_fill.specs.promise.FlatColumns.{is_flat_column}
 
 -- ---- what an answer says of it
 
@@ -15,3 +17,9 @@ IsNamed total None = most_named < total
 abbrev pub IsRefusedBy : Option ListFault → ListFault → Type 0
 IsRefusedBy fault NoMemory = Unit {0}
 IsRefusedBy fault found = fault ≡ Some found
+
+-- ---- the kinds of columns
+
+-- what each column must be whose rows are grouped
+abbrev pub nests : ℕ → KindTree → Bool
+nests k typed = is_flat_column typed

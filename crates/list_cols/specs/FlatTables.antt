@@ -9,6 +9,8 @@ use Rattle.arr_export.specs.promise.ArrayTrees.{table_tree}
 use Rattle.arr_export.specs.ArrayTrees.{flat_type}
 use Rattle.arr_export.specs.ValueColumns.{tree_of}
 use Rattle.list_cols.specs.promise.FlatTables.{columns_from}
+use Rattle.data_types.specs.promise.Value.{Value}
+use Rattle.arr_export.specs.promise.ValueColumns.{ValueColumn}
 
 -- the table of rows with columns of these types
 abbrev pub flat_table : List DataType → List Row → ArrayTree
@@ -17,3 +19,7 @@ flat_table kinds rows = table_tree (length rows) (map tree_of (columns_from 0 ki
 -- and its kinds
 abbrev pub flat_table_type : List DataType → KindTree
 flat_table_type kinds = table_type (map (λ kind. flat_type kind None) kinds)
+
+-- a column of values of a type, without a dictionary
+abbrev pub flat_column : DataType → List Value → ValueColumn
+flat_column kind values = record { own = record { kind = kind; values = values }; dictionary = None }

@@ -1,5 +1,5 @@
--- Lists as values, their kinds, and those that offsets of 32 bits reach.
-use Rattle.std.specs.Prelude.{◌<◌, ◌≤◌, false, List, [], ◌∷◌, length, None}
+-- A column of lists as an array tree, between offsets of 32 bits ("Arrow Columnar Format", "Variable-size List Layout").
+use Rattle.std.specs.Prelude.{ℕ, ◌<◌, ◌≤◌, false, List, [], ◌∷◌, length, map, None}
 use Rattle.data_types.specs.declared.kind.DataType.{DataType}
 use Rattle.data_types.specs.declared.kind.DataType.TheVariants as kinds
 use Rattle.data_types.specs.promise.Value.{Value, Items, values}
@@ -9,7 +9,20 @@ use Rattle.col_build.specs.Encoding.{Fits}
 use Rattle.data_types.specs.promise.KindTrees.{KindTree}
 use Rattle.arr_export.specs.ArrayTrees.{flat_type}
 use Rattle.layout_rules.specs.promise.Rules.{window_limit}
-use Rattle.list_cols.specs.promise.ListTrees.{joined}
+use Rattle.std.specs.List.{flat_map}
+use Rattle.data_types.specs.promise.Packed.{le_bytes, offset_width}
+use Rattle.data_types.specs.promise.Groups.{sums_from}
+
+-- the offsets of lists of these lengths one behind the other: where each begins, and where the last one ends
+abbrev pub list_offsets : List ℕ → List ℕ
+list_offsets counts = flat_map (le_bytes (offset_width false)) (sums_from 0 counts)
+
+abbrev pub list_lengths : List (List Value) → List ℕ
+list_lengths lists = map (λ list. length list) lists
+
+-- the values of all lists, one list behind the other
+abbrev pub joined : List (List Value) → List Value
+joined lists = flat_map (λ list. list) lists
 
 -- lists of values of a type
 abbrev pub list_kind : DataType → KindTree

@@ -19,7 +19,7 @@ use Rattle.data_types.specs.promise.Groups.{distinct}
 use Rattle.data_types.specs.Groups.{offsets_of, order_of, places_of}
 use Rattle.row_groups.specs.declared.groups.Groups.{Groups}
 use Rattle.list_cols.specs.promise.Faults.{first_wrong}
-use Rattle.list_cols.specs.promise.NestFaults.{nests}
+use Rattle.list_cols.specs.Faults.{nests}
 
 -- for each distinct value the items of an array that are where it is, counted from an item of the array on
 abbrev pub grouped_lists : KindTree → ArrayTree → ℕ → List Value → List (List Value)

@@ -11,7 +11,8 @@ ghost use Rattle.raw_array.specs.Members.{cost_of_all};
 ghost use Rattle.tree_model.specs.promise.TreeParts.{children_of};
 ghost use Rattle.tree_model.specs.promise.TreeData.{trees};
 ghost use Rattle.unit_pass.specs.promise.Tally.{risen};
-ghost use Rattle.list_cols.specs.promise.Exploded.{exploded_blocks, exploded_columns, exploded_kinds};
+ghost use Rattle.list_cols.specs.promise.Exploded.{exploded_blocks, exploded_kinds};
+ghost use Rattle.list_cols.specs.Exploded.{exploded_columns};
 ghost use Rattle.list_cols.specs.Spreading.{AllFit, CanSpread, FitsAt, chunk_runs, spread_column, spread_values};
 
 use crate::kinds::{child_count, child_kinds, list_column};

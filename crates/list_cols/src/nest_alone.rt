@@ -19,8 +19,7 @@ ghost use Rattle.unit_pass.specs.promise.Tally.{risen};
 ghost use Rattle.unit_pass.specs.declared.pass.TheConstants.{SUPPLY};
 ghost use Rattle.list_cols.specs.promise.NestFaults.{is_nest_too_long};
 ghost use Rattle.list_cols.specs.NestedGroups.{AreFirsts, CanNest, row_keys, run_at};
-ghost use Rattle.list_cols.specs.promise.NestedTables.{nested_array};
-ghost use Rattle.list_cols.specs.NestedTables.{FitNested};
+ghost use Rattle.list_cols.specs.NestedTables.{FitNested, nested_array};
 
 use crate::fault::ListFault;
 use crate::nest_columns::{first_row, row_count};

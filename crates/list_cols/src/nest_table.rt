@@ -14,8 +14,7 @@ ghost use Rattle.unit_pass.specs.declared.pass.TheConstants.{CHUNK};
 ghost use Rattle.list_cols.specs.promise.Faults.{most_columns, most_named};
 ghost use Rattle.list_cols.specs.promise.NestFaults.{is_nest_too_long};
 ghost use Rattle.list_cols.specs.NestedGroups.{AreRowGroups, CanNest};
-ghost use Rattle.list_cols.specs.promise.NestedTables.{nested_array};
-ghost use Rattle.list_cols.specs.NestedTables.{FitNested};
+ghost use Rattle.list_cols.specs.NestedTables.{FitNested, nested_array};
 
 use crate::fault::ListFault;
 use crate::nest_alone::lone_table;

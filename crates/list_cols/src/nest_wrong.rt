@@ -4,7 +4,7 @@ ghost use Rattle.tree_model.specs.promise.TreeParts.{children_of};
 ghost use Rattle.data_types.specs.promise.TypedView.{typed_of};
 ghost use Rattle.data_types.specs.TypedView.{kids_of};
 ghost use Rattle.list_cols.specs.promise.Faults.{first_wrong};
-ghost use Rattle.list_cols.specs.promise.NestFaults.{nests};
+ghost use Rattle.list_cols.specs.Faults.{nests};
 
 use column_fill::is_flat_column;
 use data_types::{Typed, kinds_of_typed};

@@ -11,12 +11,12 @@ ghost use Rattle.schema_check.specs.promise.Schemas.{TypedOf};
 ghost use Rattle.unit_pass.specs.promise.Tally.{risen};
 ghost use Rattle.unit_pass.specs.declared.pass.TheConstants.{CHUNK, SUPPLY};
 ghost use Rattle.list_cols.specs.promise.Faults.{first_wrong, most_columns, most_named};
-ghost use Rattle.list_cols.specs.Faults.{IsRefusedBy};
-ghost use Rattle.list_cols.specs.promise.NestFaults.{nest_fault, nests};
+ghost use Rattle.list_cols.specs.Faults.{IsRefusedBy, nests};
+ghost use Rattle.list_cols.specs.promise.NestFaults.{nest_fault};
 ghost use Rattle.list_cols.specs.promise.Nested.{Nest};
 ghost use Rattle.list_cols.specs.NestedFields.{nested_schema};
-ghost use Rattle.list_cols.specs.promise.NestedTables.{nested_array, nested_blocks};
-ghost use Rattle.list_cols.specs.NestedTables.{nested_type};
+ghost use Rattle.list_cols.specs.promise.NestedTables.{nested_blocks};
+ghost use Rattle.list_cols.specs.NestedTables.{nested_array, nested_type};
 
 use crate::fault::ListFault;
 use crate::nest_laws::{nested_schemas_have_their_kinds, nested_tables_have_their_rows};

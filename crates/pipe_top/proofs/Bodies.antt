@@ -26,7 +26,8 @@ use Rattle.stream_face.specs.Streams.{Stream}
 use Rattle.run_model.specs.promise.Answer.{Fault, Request, Text, fault_of_header, fault_of_plan, fault_of_row}
 use Rattle.run_model.specs.declared.fault.RunFault.{RunFault}
 use Rattle.run_model.specs.declared.fault.RunFault.TheVariants as run
-use Rattle.run_model.specs.promise.RunAnswer.{answer_of_columns, answer_of_plan, answer_of_records, answer_of_rows}
+use Rattle.run_model.specs.promise.RunAnswer.{answer_of_records}
+use Rattle.run_model.specs.RunAnswer.{answer_of_columns, answer_of_plan, answer_of_rows}
 use Rattle.pipe_top.specs.ChainFaults.{fault_of_chain}
 
 -- ---- the header

@@ -21,12 +21,15 @@ use Rattle.tree_check.specs.promise.Checks.{Checked}
 use Rattle.run_model.specs.promise.Answer.{Answer, Text, Fault, Request, Task, Table, Tree, Cause, OfWords}
 use Rattle.run_model.specs.promise.Answer.{OfTexts, OfPlan, OfRecords, OfTree, OfLength, Reading, Writing, Memory}
 use Rattle.run_model.specs.promise.Answer.{cause_of, fault_of_header, fault_of_plan}
-use Rattle.run_model.specs.promise.Outcomes.{AtWriteFault, AtWriting, decides_early, is_decided, is_early, is_write_fault, is_writing}
+use Rattle.run_model.specs.promise.Outcomes.{AtWriting, decides_early, is_writing}
+use Rattle.run_model.specs.Outcomes.{AtWriteFault, is_decided, is_early, is_write_fault}
 use Rattle.run_model.specs.declared.fault.RunFault.{RunFault}
 use Rattle.run_model.specs.declared.fault.RunFault.TheVariants as run
-use Rattle.run_model.specs.promise.RunAnswer.{AnswersBytes, AnswersWithin, AreBytes, answer_of_check, answer_of_columns, answer_of_plan}
+use Rattle.run_model.specs.promise.RunAnswer.{AnswersWithin}
+use Rattle.run_model.specs.RunAnswer.{AnswersBytes, AreBytes, answer_of_check, answer_of_columns, answer_of_plan}
 use Rattle.run_model.specs.RunAnswer.{IsTooLong}
-use Rattle.run_model.specs.promise.RunAnswer.{answer_of_rows, input_limit, IsAnswerTo}
+use Rattle.run_model.specs.promise.RunAnswer.{input_limit, IsAnswerTo}
+use Rattle.run_model.specs.RunAnswer.{answer_of_rows}
 use Rattle.run_model.specs.promise.RunOutcomes.{IsRead}
 use Rattle.pipe_top.specs.promise.Over.{is_behind_records}
 use Rattle.pipe_top.specs.Over.{CarriedOver}

@@ -16,7 +16,8 @@ use Rattle.stream_face.specs.Streams.{Stream}
 use Rattle.unit_pass.specs.promise.Tally.{risen}
 use Rattle.unit_pass.specs.Tally.{Tally}
 use Rattle.run_model.specs.promise.Answer.{Request}
-use Rattle.pipe_top.specs.promise.Traffic.{LinksTraffic, links_behind_header, links_of, links_planned}
+use Rattle.pipe_top.specs.promise.Traffic.{LinksTraffic, links_of}
+use Rattle.pipe_top.specs.Traffic.{links_behind_header, links_planned}
 
 module _ (request : Request) (records : List Record) (columns : List Column) (found : header_of (entries_of request.entries) records ≡ Ok columns)
     (stages : List Stage) (planned : plan_of columns request.stages ≡ Ok stages) where

@@ -36,26 +36,29 @@ use Rattle.tree_model.specs.promise.TreeData.{Released, Live, Trees, no_trees, m
 use Rattle.tree_text.specs.promise.Answers.{Reads}
 use Rattle.tree_text.specs.declared.fault.TextFault.{TextFault}
 use Rattle.tree_text.specs.declared.fault.TextFault.TheVariants as texts
+use Rattle.tree_check.specs.declared.fault.TreeFault.TheVariants as trees
 use Rattle.run_model.specs.promise.Words.{Options, words_of}
 use Rattle.run_model.specs.declared.words.WordsFault.{WordsFault}
 use Rattle.run_model.specs.promise.Answer.{Answer, EntriesAsk, Fault, OptionsAsk, Request, StagesAsk, Table, Task, TaskIs, Text, Tree, asked_by}
 use Rattle.run_model.specs.promise.Answer.{meant_by, request_with, stage_before, stages_from, table_of}
-use Rattle.run_model.specs.promise.MemoryFaults.{has_memory_inside, is_stage_memory, is_text_memory, rule_has_memory}
-use Rattle.run_model.specs.promise.Outcomes.{is_decided}
+use Rattle.run_model.specs.promise.MemoryFaults.{has_memory_inside}
+use Rattle.pipe_top.specs.MemoryFaults.{is_stage_memory, is_text_memory, memory_inside, rule_has_memory}
+use Rattle.run_model.specs.Outcomes.{is_decided}
 use Rattle.run_model.specs.declared.fault.RunFault.{RunFault}
 use Rattle.run_model.specs.declared.fault.RunFault.TheVariants as run
-use Rattle.run_model.specs.promise.RunAnswer.{AnswersWithin, IsAnswer, IsAnswerTo, answer_of_check, answer_of_columns, answer_of_plan}
-use Rattle.run_model.specs.promise.RunAnswer.{answer_of_rows, is_too_long}
+use Rattle.run_model.specs.promise.RunAnswer.{AnswersWithin, IsAnswer, IsAnswerTo}
+use Rattle.run_model.specs.RunAnswer.{answer_of_check, answer_of_columns, answer_of_plan, answer_of_rows}
+use Rattle.run_model.specs.promise.RunAnswer.{is_too_long}
 
 -- ---- of a result and of an answer
 
 abbrev inside : {A : Type 0} → Result A RunFault → Bool
 inside (Ok x) = false
-inside (Err fault) = has_memory_inside fault
+inside (Err fault) = memory_inside fault
 
 abbrev within : Answer → Bool
 within (Text text) = false
-within (Fault fault) = has_memory_inside fault
+within (Fault fault) = memory_inside fault
 
 -- ---- stage texts
 
@@ -221,8 +224,16 @@ of-answer words bytes answer is = of-answer-to is.asked bytes answer (options-as
 
 -- ---- faults of a run
 
+by-parts : (fault : RunFault) → has_memory_inside fault ≡ memory_inside fault
+by-parts (run.Stage number stage.NoMemory) = refl
+by-parts (run.Tree (trees.Text texts.NoMemory)) = refl
+by-parts (run.Tree (trees.Schema path (rules.Format format.NoMemory))) = refl
+by-parts (run.Tree (trees.Schema path (rules.Meta meta.NoMemory))) = refl
+by-parts _ = refl
+
 pub of-fault : (words : List (List ℕ)) (bytes : List ℕ) (fault : RunFault) → (is_decided fault ≡ true → IsAnswer words bytes (Fault fault))
     → has_memory_inside fault ≡ false
-of-fault words bytes (run.Stage number fault) answer = of-answer words bytes (Fault (run.Stage number fault)) (answer refl)
-of-fault words bytes (run.Tree fault) answer = of-answer words bytes (Fault (run.Tree fault)) (answer refl)
+of-fault words bytes (run.Stage number fault) answer =
+    by-parts (run.Stage number fault) ∙ of-answer words bytes (Fault (run.Stage number fault)) (answer refl)
+of-fault words bytes (run.Tree fault) answer = by-parts (run.Tree fault) ∙ of-answer words bytes (Fault (run.Tree fault)) (answer refl)
 of-fault words bytes _ answer = refl

@@ -9,7 +9,8 @@ use Rattle.stream_face.specs.promise.Shown.{Seen}
 use Rattle.run_model.specs.promise.Answer.{Answer, Asks, Task, Text, Tree, Fault, cause_of, Cause, OfWords, OfTexts, OfPlan, OfRecords}
 use Rattle.run_model.specs.promise.Answer.{OfTree, OfLength, Reading, Writing, Memory}
 use Rattle.run_model.specs.promise.MemoryFaults.{has_memory_inside}
-use Rattle.run_model.specs.promise.Outcomes.{AtWriteFault, AtWriting, is_decided, is_early, is_write_fault}
+use Rattle.run_model.specs.promise.Outcomes.{AtWriting}
+use Rattle.run_model.specs.Outcomes.{AtWriteFault, is_decided, is_early, is_write_fault}
 use Rattle.run_model.specs.Outcomes.{asked_of, fault_in, task_of}
 use Rattle.run_model.specs.declared.asked.Task.{Task as AsksTask}
 use Rattle.run_model.specs.promise.Diagnostics.{Told, Took, audit_if, fault_line}
@@ -23,7 +24,8 @@ use Rattle.run_model.specs.promise.Words.{made_of}
 use Rattle.pipe_top.proofs.Carried.{over-fault}
 use Rattle.pipe_top.proofs.Unshown.{unshown}
 use Rattle.pipe_top.proofs.Written.{some-bytes}
-use Rattle.run_model.specs.promise.RunAnswer.{AreBytes, AreInput, IsAnswer, IsAnswerTo, input_by}
+use Rattle.run_model.specs.promise.RunAnswer.{AreInput, IsAnswer, IsAnswerTo, input_by}
+use Rattle.run_model.specs.RunAnswer.{AreBytes}
 use Rattle.run_model.specs.promise.RunOutcomes.{GotFirst, GotText, IsRead}
 use Rattle.pipe_top.specs.promise.Ran.{ReadFor}
 

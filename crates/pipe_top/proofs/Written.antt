@@ -9,10 +9,11 @@ use Rattle.stream_face.specs.promise.Shown.{Seen}
 use Rattle.csv_model.specs.promise.Reading.{records_of}
 use Rattle.run_model.specs.promise.Answer.{Answer, Request, Table, Task, Text}
 use Rattle.run_model.specs.declared.fault.RunFault.{RunFault}
-use Rattle.run_model.specs.promise.RunAnswer.{AnswersBytes, AnswersTask, AnswersWithin, AreBytes, IsAnswerTo, input_limit}
-use Rattle.run_model.specs.RunAnswer.{IsTooLong}
+use Rattle.run_model.specs.promise.RunAnswer.{AnswersTask, AnswersWithin, IsAnswerTo, input_limit}
+use Rattle.run_model.specs.RunAnswer.{AnswersBytes, AreBytes, IsTooLong}
 use Rattle.run_model.specs.promise.RunOutcomes.{GotFirst, GotText}
-use Rattle.pipe_top.specs.promise.Traffic.{ShowsAsked, links_of, links_within}
+use Rattle.pipe_top.specs.promise.Traffic.{ShowsAsked, links_of}
+use Rattle.pipe_top.specs.Traffic.{links_within}
 
 pub not-long : (n : ℕ) → n ≤ input_limit → nat_lt input_limit n ≡ false
 not-long n fits = grind (arith, nat_tests)

@@ -5,3 +5,5 @@ pub mod Over
 pub mod ChainFaults
 pub mod OwnedValues
 pub mod SeenChunks
+pub mod Traffic
+pub mod MemoryFaults

@@ -1,7 +1,7 @@
 -- What comes of carrying out what the words ask for, over the bytes of the input.
 use Rattle.std.specs.Prelude.{◌≡◌, ℕ, List, true, Option, Result, Ok, IfErr, IfOk, OnErr, OnOk}
 use Rattle.run_model.specs.promise.Answer.{Fault, Task}
-use Rattle.run_model.specs.promise.Outcomes.{AtWriteFault, is_decided}
+use Rattle.run_model.specs.Outcomes.{AtWriteFault, is_decided}
 use Rattle.run_model.specs.declared.fault.RunFault.{RunFault}
 use Rattle.run_model.specs.promise.RunAnswer.{IsAnswerTo}
 use Rattle.run_model.specs.promise.RunOutcomes.{GotFirst, GotText}

@@ -2,7 +2,7 @@
 ghost use Rattle.std.specs.Prelude.{◌≡◌, ℕ, List, Option, true, false};
 ghost use Rattle.run_model.specs.promise.Answer.{Answer, Fault};
 ghost use Rattle.run_model.specs.promise.MemoryFaults.{has_memory_inside};
-ghost use Rattle.run_model.specs.promise.Outcomes.{is_decided};
+ghost use Rattle.run_model.specs.Outcomes.{is_decided};
 ghost use Rattle.run_model.specs.declared.fault.RunFault.{RunFault as AFault};
 ghost use Rattle.run_model.specs.promise.RunAnswer.{AreInput, IsAnswer};
 ghost use Rattle.run_model.specs.RunAnswer.{IsInput};

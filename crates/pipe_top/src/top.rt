@@ -30,7 +30,7 @@ use unit_pass::open_desk;
 /// words, of reading, of the text, of the schema, of the array. The tap sees nothing, and `N`, `W`, `A` and the mark change nothing.
 ///
 /// With `--selftest N`, which takes no stage, no schema text and no `--check`, the source is left alone: `N` rows are made in
-/// its place (`made` of `csv_model`), and go through a chain of stages of their own (`chain_of` in `run_model`). The mark changes nothing.
+/// its place (`made` of `csv_model`), and go through a chain of stages of their own (`chain_stages` in `run_model`). The mark changes nothing.
 ///
 /// Each chunk that passes from the source or from a stage is checked and then shown to the tap: link 0 is the source's, link
 /// K that of stage K ("The Arrow C Stream Interface").

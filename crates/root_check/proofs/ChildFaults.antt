@@ -14,7 +14,8 @@ use Rattle.data_types.specs.promise.TypedView.{typed_of}
 use Rattle.data_types.proofs.Levels.{get_or-typed}
 use Rattle.layout_rules.specs.promise.Walk.{Fault, first_fault, LayoutOk}
 use Rattle.layout_rules.proofs.Lawful.{first_fault-lawful, lawful-first_fault, left-none, right-none}
-use Rattle.root_check.specs.promise.Children.{ChildFault, at_child, children_fault}
+use Rattle.root_check.specs.promise.Children.{ChildFault, children_fault}
+use Rattle.root_check.specs.Children.{at_child}
 
 at_child-none : (k : ℕ) (fault : Option Fault) → at_child k fault ≡ None → fault ≡ None
 at_child-none k None e = refl

@@ -11,8 +11,8 @@ use Rattle.layout_rules.proofs.Lawful.{left-none, right-none}
 use Rattle.root_check.specs.declared.own.OwnFault.{OwnFault}
 use Rattle.root_check.specs.declared.own.OwnRule.{OwnRule}
 use Rattle.root_check.specs.declared.own.OwnRule.TheVariants as rules
-use Rattle.root_check.specs.promise.OwnRules.{released, own_fails, own_found, own_fault}
-use Rattle.root_check.specs.OwnRules.{OwnHolds}
+use Rattle.root_check.specs.promise.OwnRules.{released, own_fails, own_fault}
+use Rattle.root_check.specs.OwnRules.{OwnHolds, own_found}
 
 found-none : (rule : OwnRule) (fault : Option Numbers) → own_found rule fault ≡ None → fault ≡ None
 found-none rule None e = refl

@@ -4,3 +4,4 @@ pub mod Founds
 pub mod Schemas
 pub mod KidAnswers
 pub mod FaultTexts
+pub mod Children

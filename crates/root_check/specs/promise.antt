@@ -1,3 +1,4 @@
 pub mod Children
+pub mod Found
 pub mod OwnRules
 pub mod Schemas

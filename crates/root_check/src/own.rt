@@ -4,7 +4,8 @@ ghost use Rattle.std.specs.Ordering.{int_eq};
 ghost use Rattle.tree_model.specs.promise.TreeParts.{IsLive, children_of, dictionary_of};
 ghost use Rattle.raw_array.specs.promise.Members.{ArrayTree, members_of};
 ghost use Rattle.layout_rules.specs.promise.Rules.{fault_if, one_if};
-ghost use Rattle.root_check.specs.promise.OwnRules.{own_fault, own_found, fault_among, number_rules, part_rules};
+ghost use Rattle.root_check.specs.promise.OwnRules.{own_fault};
+ghost use Rattle.root_check.specs.OwnRules.{own_found, fault_among, number_rules, part_rules};
 ghost use Rattle.root_check.specs.OwnRules.{OwnHolds};
 ghost use Rattle.root_check.specs.Founds.{found_own};
 

@@ -23,12 +23,15 @@ use Rattle.col_build.specs.Encoding.{Fits, push_fault, are_bounded}
 use Rattle.arr_export.specs.promise.ArrayTrees.{column_tree}
 use Rattle.arr_export.specs.ArrayTrees.{flat_type}
 use Rattle.arr_export.proofs.Each.{value-there, each-is}
-use Rattle.run_ends.specs.promise.Runs.{Ends, ends_in, whole_of, run_count, value_count, run_end, end_before, run_at, run_value, run_values}
-use Rattle.run_ends.specs.promise.RunRules.{EndsNull, EndsFall, ValuesShort, EndsShort, WindowTooLong, null_end, end_falls, by, end_answers, first_answer, kids_fault, child_rule}
+use Rattle.run_ends.specs.promise.Runs.{Ends, ends_in, whole_of, run_count, run_end, end_before, run_values}
+use Rattle.run_ends.specs.Runs.{value_count, run_at, run_value}
+use Rattle.run_ends.specs.promise.RunRules.{EndsNull, EndsFall, ValuesShort, EndsShort, WindowTooLong}
+use Rattle.root_check.specs.promise.Found.{by}
+use Rattle.run_ends.specs.RunRules.{null_end, end_falls, end_answers, first_answer, kids_fault, child_rule}
 use Rattle.run_ends.specs.RunRules.{RunsOk}
 use Rattle.run_ends.specs.RunHolds.{EndHolds}
-use Rattle.run_ends.specs.promise.RunCoding.{is_same, Run, runs_from}
-use Rattle.run_ends.specs.RunCoding.{end_kind, end_of, value_of, runs_type, runs_tree}
+use Rattle.run_ends.specs.promise.RunCoding.{Run, runs_from}
+use Rattle.run_ends.specs.RunCoding.{end_kind, end_of, is_same, runs_tree, runs_type, value_of}
 use Rattle.run_ends.proofs.ValueRuns.{IsRising, last_stop, rising, last-is, shown, shows}
 use Rattle.run_ends.proofs.Searching.{run_is}
 

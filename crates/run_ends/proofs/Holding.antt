@@ -19,8 +19,11 @@ use Rattle.root_check.specs.declared.own.OwnFault.{OwnFault}
 use Rattle.root_check.specs.promise.OwnRules.{own_fault}
 use Rattle.root_check.specs.OwnRules.{OwnHolds}
 use Rattle.root_check.specs.promise.Children.{ChildFault, children_fault}
-use Rattle.run_ends.specs.promise.Runs.{RunTree, Ends, ends_in, run_count, value_count, run_end, end_before}
-use Rattle.run_ends.specs.promise.RunRules.{Rule, EndsNull, EndsFall, ValuesShort, EndsShort, WindowTooLong, null_end, end_falls, own_rule, child_rule, by, kids_fault}
+use Rattle.run_ends.specs.promise.Runs.{RunTree, Ends, ends_in, run_count, run_end, end_before}
+use Rattle.run_ends.specs.Runs.{value_count}
+use Rattle.run_ends.specs.promise.RunRules.{Rule, EndsNull, EndsFall, ValuesShort, EndsShort, WindowTooLong}
+use Rattle.root_check.specs.promise.Found.{by}
+use Rattle.run_ends.specs.RunRules.{null_end, end_falls, own_rule, child_rule, kids_fault}
 use Rattle.run_ends.specs.promise.RunRules.{runs_fault}
 use Rattle.run_ends.specs.RunHolds.{EndHolds, RunsHold}
 

@@ -19,7 +19,8 @@ use Rattle.arr_export.proofs.Each.{length-each, value-there}
 use Rattle.array_laws.specs.Items.{IsItemOf}
 use Rattle.run_ends.specs.RunHolds.{RunsHold}
 use Rattle.run_ends.specs.RunWalks.{ReachesRun}
-use Rattle.run_ends.specs.promise.Runs.{RunTree, run_of, run_value, run_values}
+use Rattle.run_ends.specs.promise.Runs.{RunTree, run_of, run_values}
+use Rattle.run_ends.specs.Runs.{run_value}
 use Rattle.run_ends.proofs.Holding.{items-shown}
 use Rattle.run_ends.proofs.Searching.{item_holds}
 

@@ -4,7 +4,8 @@ use Rattle.std.specs.Prelude.{if◌then◌else◌, int_lt, nat_lt, ◌⊎◌}
 use Rattle.std.proofs.lemmas.Bool.Decides.{nat_tests}
 use Rattle.raw_array.specs.promise.Members.{ArrayTree, members_of}
 use Rattle.layout_rules.specs.promise.Layout.{natural, first, items}
-use Rattle.run_ends.specs.promise.Runs.{RunTree, Ends, ends_in, run_count, run_end, end_before, ends_above, first_from, run_at, run_of}
+use Rattle.run_ends.specs.promise.Runs.{RunTree, Ends, ends_in, run_count, run_end, end_before, ends_above, first_from, run_of}
+use Rattle.run_ends.specs.Runs.{run_at}
 use Rattle.run_ends.specs.RunHolds.{EndHolds, RunsHold, Parted}
 
 -- ---- the first of some numbers

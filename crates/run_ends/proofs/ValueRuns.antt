@@ -22,8 +22,8 @@ use Rattle.layout_rules.specs.promise.Values.{tree_items, value_at, values_of}
 use Rattle.arr_import.specs.Window.{Window, whole, item_at}
 use Rattle.arr_export.proofs.Each.{value-there, length-each}
 use Rattle.run_ends.proofs.Holding.{items-shown}
-use Rattle.run_ends.specs.promise.RunCoding.{is_same, Run, runs_from}
-use Rattle.run_ends.specs.RunCoding.{AreApart, IsRun}
+use Rattle.run_ends.specs.promise.RunCoding.{Run, runs_from}
+use Rattle.run_ends.specs.RunCoding.{AreApart, IsRun, is_same}
 
 -- ---- the same value
 

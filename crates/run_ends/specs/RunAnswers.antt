@@ -15,9 +15,10 @@ use Rattle.run_ends.specs.declared.rule.RunsRule.{RunsRule}
 use Rattle.run_ends.specs.declared.rule.RunsRule.TheVariants as rules
 use Rattle.run_ends.specs.declared.rule.RunsFault.{RunsFault}
 use Rattle.run_ends.specs.promise.Runs.{RunTree}
-use Rattle.run_ends.specs.promise.RunRules.{Rule, Own, Child, EndsNull, EndsFall, ValuesShort, EndsShort, WindowTooLong, RunsFound}
+use Rattle.run_ends.specs.promise.RunRules.{Rule, Own, Child, EndsNull, EndsFall, ValuesShort, EndsShort, WindowTooLong}
+use Rattle.run_ends.specs.RunRules.{RunsFound}
 use Rattle.run_ends.specs.promise.RunSchemas as schemas
-use Rattle.run_ends.specs.promise.RunSchemas.{SchemaFound, RunsSchemaFails}
+use Rattle.run_ends.specs.promise.RunSchemas.{SchemaFound, RunsReads}
 
 -- the kinds that the code keeps
 abbrev pub runs_of : RunTyped → RunTree
@@ -45,7 +46,7 @@ IsWhole _ = Unit {0}
 
 abbrev pub FailsIf : SchemaTree → Option SchemaFound → Type 0
 FailsIf schema None = Unit {0}
-FailsIf schema (Some found) = RunsSchemaFails schema found
+FailsIf schema (Some found) = RunsReads schema (Err found)
 
 -- It is the first fault, if it is no out-of-memory, which is never inside another fault.
 abbrev pub IsRunsFault : SchemaTree → RunsSchemaFault → Type 0

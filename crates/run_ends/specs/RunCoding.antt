@@ -1,7 +1,8 @@
--- What a run is, and values as the schema and the array of runs ("Arrow Columnar Format", "Run-End Encoded Layout").
-use Rattle.std.specs.Prelude.{◌≡◌, ℕ, ◌+◌, pos, true, false, codes, List, [], ◌∷◌, length, map, get_or, drop, Some, None}
+-- Values as runs ("Arrow Columnar Format", "Run-End Encoded Layout"), and the schema and the array of such runs.
+use Rattle.std.specs.Prelude.{◌≡◌, ℕ, ◌+◌, pos, Bool, true, false, codes, List, [], ◌∷◌, length, map, get_or, drop, Some, None}
 use Rattle.data_types.specs.declared.kind.DataType.{DataType}
 use Rattle.data_types.specs.declared.kind.DataType.TheVariants as kinds
+use Rattle.data_types.specs.promise.Groups.{same}
 use Rattle.data_types.specs.promise.Value.{Value}
 use Rattle.data_types.specs.promise.Value.Value.{Null, Whole}
 use Rattle.tree_model.specs.promise.TreeData.{Live, no_trees, trees, absent}
@@ -14,7 +15,11 @@ use Rattle.schema_check.specs.promise.ColumnSchema.{node, values_schema}
 use Rattle.arr_export.specs.promise.ArrayTrees.{column_tree}
 use Rattle.arr_export.specs.ArrayTrees.{flat_type}
 use Rattle.run_ends.specs.promise.Runs.{RunTree, run_values}
-use Rattle.run_ends.specs.promise.RunCoding.{Run, is_same, runs_from}
+use Rattle.run_ends.specs.promise.RunCoding.{Run, runs_from}
+
+-- whether two values of flat types are the same: a null is the same as any null, and floats are by their bits
+abbrev pub is_same : Value → Value → Bool
+is_same a b = same a b
 
 -- a run begins at an item and ends before another, where the next runs begin
 abbrev pub IsRun : List Value → ℕ → ℕ → Type 0

@@ -6,7 +6,8 @@ use Rattle.layout_rules.specs.promise.Layout.{end, natural}
 use Rattle.layout_rules.specs.promise.Rules.{window_limit}
 use Rattle.layout_rules.specs.promise.Walk.{LayoutOk}
 use Rattle.root_check.specs.OwnRules.{OwnHolds}
-use Rattle.run_ends.specs.promise.Runs.{RunTree, Ends, ends_in, run_count, value_count, run_end, end_before}
+use Rattle.run_ends.specs.promise.Runs.{RunTree, Ends, ends_in, run_count, run_end, end_before}
+use Rattle.run_ends.specs.Runs.{value_count}
 
 -- an end is above the one before it, and so above 0
 pub record EndHolds (ends : Ends) (k : ℕ) : Type 0 where

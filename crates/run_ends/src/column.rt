@@ -40,8 +40,8 @@ impl<'a> RunCol<'a> {
     ghost use Rattle.std.specs.Prelude.{ℕ, ◌+◌, ◌<◌, ◌≤◌, ◌≤ℤ◌, ◌<ℤ◌, pos};
     ghost use Rattle.layout_rules.specs.promise.Layout.{natural};
     ghost use Rattle.arr_import.specs.Shown.{Shows};
-    ghost use Rattle.run_ends.specs.promise.Runs.{run_at, run_count, ends_in, ends_above, run_end, run_of, run_value};
-    ghost use Rattle.run_ends.specs.Runs.{RunTypedOk};
+    ghost use Rattle.run_ends.specs.promise.Runs.{run_count, ends_in, ends_above, run_end, run_of};
+    ghost use Rattle.run_ends.specs.Runs.{RunTypedOk, run_at, run_value};
     ghost use Rattle.run_ends.specs.RunHolds.{Parted};
     ghost use Rattle.run_ends.specs.RunRules.{RunsOk};
     ghost use Rattle.run_ends.specs.RunCols.{kinds_in, array_in};

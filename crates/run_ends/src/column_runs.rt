@@ -32,8 +32,7 @@ impl<'a> ColumnRuns<'a> {
     ghost use Rattle.layout_rules.specs.promise.Layout.{natural};
     ghost use Rattle.layout_rules.specs.promise.Values.{values_of};
     ghost use Rattle.layout_rules.specs.promise.Walk.{LayoutOk};
-    ghost use Rattle.run_ends.specs.promise.RunCoding.{is_same};
-    ghost use Rattle.run_ends.specs.RunCoding.{IsRun};
+    ghost use Rattle.run_ends.specs.RunCoding.{IsRun, is_same};
     ghost use Rattle.run_ends.specs.ColumnRuns.{values_in};
 
     /// All items of an array that `layout_check::check_array` accepted.

@@ -4,7 +4,7 @@ ghost use Rattle.layout_rules.specs.promise.Rules.{first_below};
 ghost use Rattle.arr_import.specs.Window.{item_at};
 ghost use Rattle.arr_import.specs.Cols.{window_of};
 ghost use Rattle.run_ends.specs.promise.Runs.{IsEnds, ends_above, run_end, end_before};
-ghost use Rattle.run_ends.specs.promise.RunRules.{null_end, end_falls};
+ghost use Rattle.run_ends.specs.RunRules.{null_end, end_falls};
 
 use arr_import::Col;
 use layout_check::Numbers;

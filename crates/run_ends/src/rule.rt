@@ -51,7 +51,7 @@ pub struct RunsFault {
 impl From<OwnFault> for RunsFault {
     ghost use Rattle.std.specs.Prelude.{◌≡◌};
     ghost use Rattle.run_ends.specs.RunAnswers.{found_of};
-    ghost use Rattle.run_ends.specs.promise.RunRules.{own_of};
+    ghost use Rattle.run_ends.specs.RunRules.{own_of};
 
     ghost from_gives = { λ fault given. found_of given ≡ own_of fault };
 

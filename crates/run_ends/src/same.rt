@@ -3,7 +3,7 @@ ghost use Rattle.std.specs.Prelude.{◌≡◌, ◌↔◌, ◌<◌, true, IsTrue}
 ghost use Rattle.data_types.specs.promise.Value.Value.{Null, Truth, Whole, Bits, Bytes};
 ghost use Rattle.arr_import.specs.Window.{item_at};
 ghost use Rattle.arr_import.specs.Cols.{window_of};
-ghost use Rattle.run_ends.specs.promise.RunCoding.{is_same};
+ghost use Rattle.run_ends.specs.RunCoding.{is_same};
 
 use arr_import::{Col, ValueRef};
 

@@ -1,7 +1,7 @@
 -- The lines of faults and of the audit, from their pieces.
 use Rattle.std.proofs.Common.{ℕ, ◌≡◌, ◌++◌, ◌∙◌, List, ap, sym, append_assoc, codes, decimal}
 use Rattle.unit_pass.specs.declared.pass.Audit.{Audit}
-use Rattle.run_model.specs.promise.Diagnostics.{audit_line, line_of}
+use Rattle.run_model.specs.Diagnostics.{audit_line, line_of}
 
 abbrev feed : List ℕ
 feed = codes "\n"

@@ -11,8 +11,7 @@ use Rattle.std.specs.List.{concat}
 use Rattle.std.specs.Result.{IsErr}
 use Rattle.edge_io.specs.declared.edge.WriteFault.{WriteFault}
 use Rattle.edge_io.specs.promise.Edge.{Rose}
-use Rattle.run_model.specs.promise.Diagnostics.{TookFirst}
-use Rattle.run_model.specs.Diagnostics.{Says, joined}
+use Rattle.run_model.specs.Diagnostics.{Says, TookFirst, joined}
 
 joined-append : (xs ys : List (Bor (List ℕ))) → joined (xs ++ ys) ≡ joined xs ++ joined ys
 joined-append [] ys = refl

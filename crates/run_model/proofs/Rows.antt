@@ -9,9 +9,10 @@ use Rattle.clap.proofs.WalkLemmas.{first_value-rows, raw_values-rows}
 use Rattle.run_model.specs.declared.words.WordsFault.TheVariants.{Refused}
 use Rattle.run_model.specs.declared.words.WordsError.{WordsError}
 use Rattle.run_model.specs.declared.words.WordsError.TheVariants as error
-use Rattle.run_model.specs.promise.Words.{Options, ahead_if, asks_audit, batch_if, choice_if, flag_in, given_in, number_if}
-use Rattle.run_model.specs.Words.{Explains}
-use Rattle.run_model.specs.promise.Words.{options_if, options_with, rows_if, ruled, texts_in, with_numbers, workers_if}
+use Rattle.run_model.specs.promise.Words.{Options, choice_if, default_batch, default_workers, flag_in, most_ahead, most_batch, most_rows}
+use Rattle.run_model.specs.Words.{Explains, asks_audit, texts_in}
+use Rattle.run_model.specs.promise.Words.{number_if, options_in, ruled, with_numbers}
+use Rattle.fan_out.specs.promise.Counts.{most_workers}
 
 -- the text that `get_str` gave
 pub given_text : (f : Found) (id : Text) (o : Option (Bor Text)) → option_map (λ s. s.now) o ≡ first_value f id
@@ -56,51 +57,65 @@ choice_is most name f o result asked given read is = ap (choice_if most) (sym (g
 
 module _ (rows : List Row) where
   abbrev pub batch_asked : Option ℕ
-  batch_asked = batch_if (first_of (codes "batch") rows)
+  batch_asked = number_if default_batch most_batch (first_of (codes "batch") rows)
 
   abbrev pub workers_asked : Option ℕ
-  workers_asked = workers_if (first_of (codes "workers") rows)
+  workers_asked = number_if default_workers most_workers (first_of (codes "workers") rows)
 
   abbrev pub rows_asked : Option (Option ℕ)
-  rows_asked = rows_if (first_of (codes "selftest") rows)
+  rows_asked = choice_if most_rows (first_of (codes "selftest") rows)
 
   abbrev pub ahead_asked : Option (Option ℕ)
-  ahead_asked = ahead_if (first_of (codes "ahead") rows)
+  ahead_asked = choice_if most_ahead (first_of (codes "ahead") rows)
 
-  pub no_batch : batch_asked ≡ None → options_if (given_in rows) ≡ None
-  no_batch none = ap (λ b. with_numbers (given_in rows) b workers_asked rows_asked ahead_asked) none
+  -- options with these numbers
+  abbrev options-read : ℕ → ℕ → Option ℕ → Option ℕ → Options
+  options-read batch workers selftest ahead = record {
+    schema = first_of (codes "schema") rows;
+    batch = batch;
+    workers = workers;
+    audit = flag_in (codes "audit") rows;
+    check = flag_in (codes "check") rows;
+    selftest = selftest;
+    null = first_of (codes "null") rows;
+    ahead = ahead;
+    stages = texts_in (codes "stage") rows;
+  }
+
+  pub no_batch : batch_asked ≡ None → options_in rows ≡ None
+  no_batch none = ap (λ b. with_numbers rows b workers_asked rows_asked ahead_asked) none
 
   module _ (batch : ℕ) (size : batch_asked ≡ Some batch) where
-    pub no_workers : workers_asked ≡ None → options_if (given_in rows) ≡ None
+    pub no_workers : workers_asked ≡ None → options_in rows ≡ None
     no_workers none =
-        ap (λ b. with_numbers (given_in rows) b workers_asked rows_asked ahead_asked) size
-        ∙ ap (λ w. with_numbers (given_in rows) (Some batch) w rows_asked ahead_asked) none
+        ap (λ b. with_numbers rows b workers_asked rows_asked ahead_asked) size
+        ∙ ap (λ w. with_numbers rows (Some batch) w rows_asked ahead_asked) none
 
     module _ (workers : ℕ) (count : workers_asked ≡ Some workers) where
       -- what is left to the third number
-      two : options_if (given_in rows) ≡ with_numbers (given_in rows) (Some batch) (Some workers) rows_asked ahead_asked
+      two : options_in rows ≡ with_numbers rows (Some batch) (Some workers) rows_asked ahead_asked
       two =
-          ap (λ b. with_numbers (given_in rows) b workers_asked rows_asked ahead_asked) size
-          ∙ ap (λ w. with_numbers (given_in rows) (Some batch) w rows_asked ahead_asked) count
+          ap (λ b. with_numbers rows b workers_asked rows_asked ahead_asked) size
+          ∙ ap (λ w. with_numbers rows (Some batch) w rows_asked ahead_asked) count
 
-      pub no_rows : rows_asked ≡ None → options_if (given_in rows) ≡ None
-      no_rows none = two ∙ ap (λ r. with_numbers (given_in rows) (Some batch) (Some workers) r ahead_asked) none
+      pub no_rows : rows_asked ≡ None → options_in rows ≡ None
+      no_rows none = two ∙ ap (λ r. with_numbers rows (Some batch) (Some workers) r ahead_asked) none
 
       module _ (selftest : Option ℕ) (made : rows_asked ≡ Some selftest) where
         -- what is left to the fourth number
-        three : options_if (given_in rows) ≡ with_numbers (given_in rows) (Some batch) (Some workers) (Some selftest) ahead_asked
-        three = two ∙ ap (λ r. with_numbers (given_in rows) (Some batch) (Some workers) r ahead_asked) made
+        three : options_in rows ≡ with_numbers rows (Some batch) (Some workers) (Some selftest) ahead_asked
+        three = two ∙ ap (λ r. with_numbers rows (Some batch) (Some workers) r ahead_asked) made
 
-        pub no_ahead : ahead_asked ≡ None → options_if (given_in rows) ≡ None
-        no_ahead none = three ∙ ap (with_numbers (given_in rows) (Some batch) (Some workers) (Some selftest)) none
+        pub no_ahead : ahead_asked ≡ None → options_in rows ≡ None
+        no_ahead none = three ∙ ap (with_numbers rows (Some batch) (Some workers) (Some selftest)) none
 
         -- options whose fields are those of the rows
         pub options_are : (ahead : Option ℕ) → ahead_asked ≡ Some ahead → (o : Options) → o.schema ≡ first_of (codes "schema") rows
             → o.batch ≡ batch → o.workers ≡ workers → o.audit ≡ flag_in (codes "audit") rows → o.check ≡ flag_in (codes "check") rows
             → o.selftest ≡ selftest → o.null ≡ first_of (codes "null") rows → o.ahead ≡ ahead → o.stages ≡ texts_in (codes "stage") rows
-            → options_if (given_in rows) ≡ Some o
+            → options_in rows ≡ Some o
         options_are ahead rounds o schema batches many audit check rows_same null ahead_same stages =
-            let same : ◌≡◌ {A = Options} o (options_with (given_in rows) batch workers selftest ahead) =
+            let same : ◌≡◌ {A = Options} o (options-read batch workers selftest ahead) =
             λ i. record {
               schema = schema i;
               batch = batches i;
@@ -112,7 +127,7 @@ module _ (rows : List Row) where
               ahead = ahead_same i;
               stages = stages i;
             } in
-            three ∙ ap (with_numbers (given_in rows) (Some batch) (Some workers) (Some selftest)) rounds ∙ ap (λ (x : Options). Some x) (sym same)
+            three ∙ ap (with_numbers rows (Some batch) (Some workers) (Some selftest)) rounds ∙ ap (λ (x : Options). Some x) (sym same)
 
 -- without options the words are refused, and ask for no audit
 pub refused-without : (taken : Option Options) (x : WordsError) → x ≡ error.Words Refused false → taken ≡ None → Explains taken x

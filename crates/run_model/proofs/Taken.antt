@@ -4,7 +4,7 @@ use Rattle.clap.specs.Words.{App, FailsBy, HasMatchesOf, Text, fault_of, found_o
 use Rattle.clap.specs.declared.error.Error.{Error}
 use Rattle.clap.specs.declared.error.kind.ErrorKind.TheVariants.{OutOfMemory}
 use Rattle.clap.specs.declared.parser.matches.ArgMatches.{ArgMatches}
-use Rattle.run_model.specs.promise.Words.{Options, arrowpipe, given_in, options_if, ruled, taken_of}
+use Rattle.run_model.specs.promise.Words.{Options, arrowpipe, options_in, ruled, taken_of}
 use Rattle.run_model.specs.Words.{ErrorOf, Explains, options_of}
 use Rattle.run_model.specs.declared.words.Words.{Words}
 use Rattle.run_model.specs.declared.words.WordsFault.{WordsFault}
@@ -21,7 +21,7 @@ is_free_command = refl
 -- matches are those of words that are taken
 pub taken_words : (a : App) (ws : List Text) (r : Result ArgMatches Error) (m : ArgMatches) → a ≡ arrowpipe → r ≡ Ok m
     → (is_simple_and_free a ≡ true → FailsBy (fault_of a ws) r) → IfOk r (HasMatchesOf a ws)
-    → taken_of ws ≡ options_if (given_in (rows_of (found_of m)))
+    → taken_of ws ≡ options_in (rows_of (found_of m))
 unfolding taken_of
 taken_words a ws r m is ok fails has =
     let promised : FailsBy (fault_of a ws) (Ok m) = subst (FailsBy (fault_of a ws)) ok (fails (ap is_simple_and_free is ∙ is_free_command)) in
@@ -40,7 +40,7 @@ refused_words a ws r e x is err passes from =
     (ap (λ (y : App). takes y ws) is ∙ takes_words))
   where
     go : (x : WordsError) → ErrorOf (kind_of e) x → (b : Bool) → (b ≡ true → kind_of e ≡ OutOfMemory)
-        → Explains (cond b (options_if (given_in (matches_of arrowpipe ws))) None) x
+        → Explains (cond b (options_in (matches_of arrowpipe ws)) None) x
     go error.NoMemory from b memory = tt
     go (error.Words fault audit) from true memory = absurd (from.0 (memory refl))
     go (error.Words fault audit) from false memory = (ap (λ (f : WordsFault). Err f) (sym from.1), from.2)

@@ -7,7 +7,7 @@ use Rattle.std.proofs.lemmas.Grind.{flat_map-append}
 use Rattle.data_types.specs.WayTexts.{step_text}
 use Rattle.tree_text.specs.promise.FaultTexts.{text_fault_text}
 use Rattle.tree_text.specs.declared.fault.TextFault.TheVariants as texts
-use Rattle.run_model.specs.promise.Diagnostics.{line_of}
+use Rattle.run_model.specs.Diagnostics.{line_of}
 
 -- ---- the line of a text
 pub text-line : (number : ℕ) (digits : List ℕ) → digits ≡ decimal number

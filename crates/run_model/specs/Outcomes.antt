@@ -1,12 +1,30 @@
--- What the code has read of the words, as the definitions see it.
-use Rattle.std.specs.Prelude.{List, Option, None, Some, Result, Ok, Err, Vec, ⊤}
+-- What a fault's cause says of it, and what the program has read of the words.
+use Rattle.std.specs.Prelude.{ℕ, Bool, List, Option, None, Some, Result, Ok, Err, Vec, ⊤}
 use Rattle.std.specs.Global.{Global}
 use Rattle.stage_plan.specs.declared.types.TypeEntry.{TypeEntry}
-use Rattle.run_model.specs.promise.Answer.{Request, Task, Table, Tree}
+use Rattle.run_model.specs.promise.Answer.{Request, Task, Table, Tree, cause_of}
+use Rattle.run_model.specs.promise.Outcomes.{AtWriting, decides, decides_early, is_writing}
 use Rattle.run_model.specs.declared.request.Request.{Request as AsksFor}
 use Rattle.run_model.specs.declared.asked.Task.{Task as AsksTask}
 use Rattle.run_model.specs.declared.asked.Task.TheVariants as tasks
 use Rattle.run_model.specs.declared.fault.RunFault.{RunFault}
+
+-- ---- what a fault's cause says of it
+
+abbrev pub is_decided : RunFault → Bool
+is_decided fault = decides (cause_of fault)
+
+abbrev pub is_early : RunFault → Bool
+is_early fault = decides_early (cause_of fault)
+
+abbrev pub is_write_fault : RunFault → Bool
+is_write_fault fault = is_writing (cause_of fault)
+
+-- this many bytes were taken before a write failed
+abbrev pub AtWriteFault : RunFault → (ℕ → Type 0) → Type 0
+AtWriteFault fault P = AtWriting (cause_of fault) P
+
+-- ---- what the program has read of the words
 
 -- what the program has read, as the definitions see it
 abbrev pub entries_asked : Result (Vec TypeEntry Global) RunFault → Result (List TypeEntry) RunFault

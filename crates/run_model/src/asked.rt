@@ -8,10 +8,10 @@ ghost use Rattle.stage_plan.specs.promise.PlanWords.{most_stages};
 ghost use Rattle.stage_plan.specs.declared.types.TypeEntry.{TypeEntry as AnEntry};
 ghost use Rattle.run_model.specs.promise.Words.{audit_of, made_of, most_ahead, most_batch, most_rows, texts_of, words_of};
 ghost use Rattle.run_model.specs.Words.{options_of};
-ghost use Rattle.run_model.specs.promise.Answer.{Asks, EntriesAsk, Request as ARequest, RequestIs, StagesAsk, Task as ATask, TaskIs, chain_of, meant_by};
+ghost use Rattle.run_model.specs.promise.Answer.{Asks, EntriesAsk, Request as ARequest, RequestIs, StagesAsk, Task as ATask, TaskIs, meant_by};
+ghost use Rattle.run_model.specs.Answer.{chain_of};
 ghost use Rattle.run_model.specs.promise.Answer.{stages_from};
-ghost use Rattle.run_model.specs.promise.Outcomes.{is_early};
-ghost use Rattle.run_model.specs.Outcomes.{IfTable, asked_of, entries_asked, request_asked};
+ghost use Rattle.run_model.specs.Outcomes.{IfTable, asked_of, entries_asked, is_early, request_asked};
 ghost use Rattle.run_model.specs.declared.fault.RunFault.{RunFault as AFault};
 
 use crate::fault::RunFault;

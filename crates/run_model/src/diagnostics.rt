@@ -1,8 +1,8 @@
 //! What is written of the fault and of the audit. No line takes memory.
 ghost use Rattle.std.specs.Prelude.{◌++◌};
 ghost use Rattle.run_model.specs.NumberedTexts.{numbered_text};
-ghost use Rattle.run_model.specs.promise.Diagnostics.{audit_if, audit_line, fault_line, fault_text, line_of};
-ghost use Rattle.run_model.specs.Diagnostics.{Says, joined};
+ghost use Rattle.run_model.specs.promise.Diagnostics.{audit_if, fault_line, fault_text};
+ghost use Rattle.run_model.specs.Diagnostics.{Says, audit_line, joined, line_of};
 
 use crate::fault::RunFault;
 use crate::fault_text::{NumberedText, Told, digits, message_of};

@@ -8,8 +8,7 @@ ghost use Rattle.layout_rules.specs.promise.FaultTexts.{layout_fault_text, rule_
 ghost use Rattle.data_types.specs.promise.Ways.{steps_of};
 ghost use Rattle.tree_check.specs.promise.FaultTexts.{tree_fault_text};
 ghost use Rattle.tree_text.specs.promise.FaultTexts.{text_fault_text};
-ghost use Rattle.run_model.specs.promise.Diagnostics.{line_of};
-ghost use Rattle.run_model.specs.Diagnostics.{Says};
+ghost use Rattle.run_model.specs.Diagnostics.{Says, line_of};
 
 use crate::diagnostics::say;
 use data_types::{DICTIONARY_STEP, Path};

@@ -13,11 +13,13 @@ ghost use Rattle.std.specs.Prelude.{◌≡◌, ◌≤◌, false, [], length, map
 ghost use Rattle.clap.specs.Words.{rule_of, app_of, found_of, rows_of};
 ghost use Rattle.fan_out.specs.promise.Counts.{most_workers};
 ghost use Rattle.stage_plan.specs.promise.PlanWords.{most_stages};
-ghost use Rattle.run_model.specs.promise.Words.{bare_command, flag_rule, text_rule, words_rule, arrowpipe, flag_in, given_in};
+ghost use Rattle.run_model.specs.promise.Words.{flag_rule, text_rule, arrowpipe, flag_in};
+ghost use Rattle.run_model.specs.Words.{bare_command, words_rule};
 ghost use Rattle.run_model.specs.Words.{ErrorOf, Explains};
-ghost use Rattle.run_model.specs.promise.Words.{begins_number, asks_of_table, choice_if, number_between, number_if, options_if, ruled};
+ghost use Rattle.run_model.specs.promise.Words.{begins_number, asks_of_table, choice_if, number_between, number_if, options_in, ruled};
 ghost use Rattle.run_model.specs.Words.{options_of};
-ghost use Rattle.run_model.specs.promise.Words.{most_ahead, most_batch, most_rows, taken_of, texts_in, texts_of, words_of};
+ghost use Rattle.run_model.specs.promise.Words.{most_ahead, most_batch, most_rows, taken_of, texts_of, words_of};
+ghost use Rattle.run_model.specs.Words.{texts_in};
 ghost use Rattle.run_model.specs.declared.words.WordsError.TheVariants as error;
 ghost use Rattle.run_model.specs.declared.words.WordsFault.TheVariants.{Refused};
 
@@ -226,9 +228,9 @@ fn refused() -> WordsError
 
 /// What the matches ask for.
 fn options<'a>(alloc: Global, matches: &ArgMatches<'a>) -> Result<Words<'a>, WordsError>
-    ensures taken { IfOk result (λ w. ruled (options_if (given_in (rows_of (found_of matches.now)))) ≡ Ok (options_of w)) }
-    ensures asked { IfOk result (λ w. options_if (given_in (rows_of (found_of matches.now))) ≡ Some (options_of w)) }
-    ensures refused { IfErr result (Explains (options_if (given_in (rows_of (found_of matches.now))))) }
+    ensures taken { IfOk result (λ w. ruled (options_in (rows_of (found_of matches.now))) ≡ Ok (options_of w)) }
+    ensures asked { IfOk result (λ w. options_in (rows_of (found_of matches.now)) ≡ Some (options_of w)) }
+    ensures refused { IfErr result (Explains (options_in (rows_of (found_of matches.now)))) }
     ensures batch { IfOk result (λ w. (1 ≤ w.batch) × (w.batch ≤ most_batch)) }
     ensures workers { IfOk result (λ w. (1 ≤ w.workers) × (w.workers ≤ most_workers)) }
     ensures rows { IfOk result (λ w. IfSome w.selftest (λ n. (1 ≤ n) × (n ≤ most_rows))) }

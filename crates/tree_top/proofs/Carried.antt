@@ -16,32 +16,36 @@ use Rattle.tree_check.specs.declared.fault.TreeFault.TheVariants as trees
 use Rattle.tree_model.specs.promise.TreeParts.{children_of}
 use Rattle.tree_text.specs.declared.fault.TextFault.{TextFault}
 use Rattle.tree_top.specs.promise.TextOrFault.{Answer, Fault, Text}
-use Rattle.tree_top.specs.promise.Answer.{AnswerWithin, AreBytes, CountsCommand, IsAnswerTo, ReadAnswer, TextAnswer}
-use Rattle.tree_top.specs.Answer.{IsTooLong}
+use Rattle.tree_top.specs.promise.Answer.{AnswerWithin, CountsCommand, IsAnswerTo, ReadAnswer, TextAnswer}
+use Rattle.tree_top.specs.Answer.{AreBytes, IsTooLong}
 use Rattle.tree_top.specs.promise.Answer.{TreesAnswer, input_limit}
-use Rattle.tree_top.specs.promise.Faults.{AtWriteFault, AtWriting, Cause, Memory, OfLength, OfTrees, OfWords, Reading, Writing}
-use Rattle.tree_top.specs.promise.Faults.{cause_of, is_decided, is_write_fault, is_writing}
+use Rattle.tree_top.specs.promise.Faults.{AtWriting, Cause, Memory, OfLength, OfTrees, OfWords, Reading, Writing}
+use Rattle.tree_top.specs.Faults.{AtWriteFault}
+use Rattle.tree_top.specs.promise.Faults.{cause_of, is_writing}
+use Rattle.tree_top.specs.Faults.{is_decided, is_write_fault}
 use Rattle.tree_top.specs.Faults.{fault_in}
 use Rattle.data_types.specs.promise.Table.{Row}
 use Rattle.layout_rules.specs.promise.Values.{rows_of}
 use Rattle.list_cols.specs.promise.Nested.{Explode, Nest}
 use Rattle.list_cols.specs.declared.fault.ListFault.{ListFault}
-use Rattle.run_ends.specs.promise.RunRules.{RunsFound, runs_fault}
+use Rattle.run_ends.specs.promise.RunRules.{runs_fault}
+use Rattle.run_ends.specs.RunRules.{RunsFound}
 use Rattle.run_ends.specs.promise.RunSchemas.{SchemaFound as RunsSchemaFound}
 use Rattle.run_ends.specs.promise.Runs.{RunTree}
 use Rattle.run_ends.specs.declared.code_fault.CodeFault.{CodeFault}
-use Rattle.tree_top.specs.promise.ChunkAnswer.{ChunkCommand, answer_of_chunk, answer_of_kinds}
-use Rattle.tree_top.specs.promise.FlatAnswer.{flat_of_schema, flat_unless}
-use Rattle.tree_top.specs.promise.ForeignAnswer.{chunk_of_kinds, chunk_unless}
-use Rattle.tree_top.specs.promise.ListsAnswer.{exploded, lines_unless, nested, rows_unless as new_rows_unless, answer_of_column}
+use Rattle.tree_top.specs.AnswerParts.{ChunkCommand, answer_of_chunk, answer_of_kinds}
+use Rattle.tree_top.specs.AnswerParts.{flat_of_schema, flat_unless}
+use Rattle.tree_top.specs.AnswerParts.{chunk_of_kinds, chunk_unless}
+use Rattle.tree_top.specs.AnswerParts.{exploded, lines_unless, nested, new_rows_unless, answer_of_column}
 use Rattle.tree_top.specs.promise.Over.{RanOver, ReadFor}
-use Rattle.tree_top.specs.promise.Refusals.{fault_of_tree}
-use Rattle.tree_top.specs.promise.RowsAnswer.{rows_of_kinds, rows_unless}
-use Rattle.tree_top.specs.promise.RunsAnswer.{runs_of_array, runs_of_kinds, runs_unless}
-use Rattle.tree_top.specs.promise.TagAnswer.{tags_of_columns, tags_unless}
-use Rattle.tree_top.specs.promise.UnionAnswer.{union_of_schema, union_unless}
+use Rattle.tree_top.specs.Refusals.{fault_of_tree}
+use Rattle.tree_top.specs.AnswerParts.{rows_of_kinds, rows_unless}
+use Rattle.tree_top.specs.AnswerParts.{runs_of_array, runs_of_kinds, runs_unless}
+use Rattle.tree_top.specs.AnswerParts.{tags_of_columns, tags_unless}
+use Rattle.tree_top.specs.AnswerParts.{union_of_schema, union_unless}
 use Rattle.union_cols.specs.declared.tag_fault.TagFault.{TagFault}
-use Rattle.union_cols.specs.promise.UnionRules.{UnionFound, union_fault}
+use Rattle.union_cols.specs.promise.UnionRules.{union_fault}
+use Rattle.union_cols.specs.UnionRules.{UnionFound}
 use Rattle.union_cols.specs.promise.UnionSchemas.{SchemaFound}
 use Rattle.union_cols.specs.promise.Unions.{UnionTree}
 use Rattle.tree_top.specs.declared.command.Command.{Command}

@@ -14,7 +14,8 @@ use Rattle.schema_check.specs.declared.schema.SchemaFault.{SchemaFault}
 use Rattle.schema_check.specs.declared.schema.SchemaFault.TheVariants as schemas
 use Rattle.tree_check.specs.Checks.{array_refused, schema_refused}
 use Rattle.tree_check.specs.declared.fault.CheckFault.{CheckFault}
-use Rattle.tree_top.specs.promise.ChunkAnswer.{ChunkAnswer, ChunkCommand, answer_of_chunk}
+use Rattle.tree_top.specs.promise.ChunkAnswer.{ChunkAnswer}
+use Rattle.tree_top.specs.AnswerParts.{ChunkCommand, answer_of_chunk}
 use Rattle.tree_top.specs.Refusals.{fault_of_check}
 use Rattle.tree_top.specs.promise.TextOrFault.{Answer, Fault, Text}
 use Rattle.tree_top.specs.declared.fault.TreeRunFault.{TreeRunFault}

@@ -31,10 +31,11 @@ use Rattle.union_cols.specs.declared.schema_fault.UnionSchemaFault.TheVariants a
 use Rattle.root_check.specs.declared.own_schema.OwnSchemaFault.TheVariants as parts
 use Rattle.tree_top.specs.promise.TextOrFault.{Answer, Fault, Text}
 use Rattle.tree_top.specs.promise.Answer.{TextAnswer, TreesAnswer}
-use Rattle.tree_top.specs.promise.RowsAnswer.{RowsAnswer, rows_unless}
-use Rattle.tree_top.specs.promise.UnionAnswer.{UnionAnswer, items_text, union_unless}
-use Rattle.tree_top.specs.promise.Refusals.{fault_of_tree, union_fault_told}
-use Rattle.tree_top.specs.Refusals.{fault_of_check, fault_of_union_schema}
+use Rattle.tree_top.specs.promise.RowsAnswer.{RowsAnswer}
+use Rattle.tree_top.specs.AnswerParts.{rows_unless, union_unless}
+use Rattle.tree_top.specs.promise.UnionAnswer.{UnionAnswer, items_text}
+use Rattle.tree_top.specs.promise.Refusals.{union_fault_told}
+use Rattle.tree_top.specs.Refusals.{fault_of_check, fault_of_tree, fault_of_union_schema}
 use Rattle.tree_top.specs.declared.command.Command.{Command}
 use Rattle.tree_top.specs.declared.fault.TreeRunFault.{TreeRunFault}
 use Rattle.tree_top.specs.declared.fault.TreeRunFault.TheVariants as run

@@ -24,30 +24,41 @@ use Rattle.data_types.specs.promise.Table.{Row}
 use Rattle.layout_rules.specs.promise.Values.{rows_of}
 use Rattle.list_cols.specs.promise.Nested.{Explode, Nest}
 use Rattle.list_cols.specs.promise.Faults as lists
+use Rattle.list_cols.specs.declared.fault.ListFault.TheVariants as list_faults
 use Rattle.run_ends.specs.declared.code_fault.CodeFault.TheVariants as codings
-use Rattle.run_ends.specs.promise.RunRules.{RunsFound, runs_fault}
+use Rattle.run_ends.specs.declared.schema_fault.RunsSchemaFault.TheVariants as run_ends
+use Rattle.schema_check.specs.declared.schema.SchemaFault.TheVariants as schemas
+use Rattle.union_cols.specs.declared.schema_fault.UnionSchemaFault.TheVariants as unions
+use Rattle.run_ends.specs.promise.RunRules.{runs_fault}
+use Rattle.run_ends.specs.RunRules.{RunsFound}
 use Rattle.run_ends.specs.promise.RunSchemas as runs
-use Rattle.run_ends.specs.promise.RunSchemas.{RunsReads, RunsSchemaFails}
+use Rattle.run_ends.specs.promise.RunSchemas.{RunsReads}
 use Rattle.run_ends.specs.promise.RunSchemas.{SchemaFound as RunsSchemaFound}
 use Rattle.run_ends.specs.promise.Runs.{RunTree}
 use Rattle.union_cols.specs.declared.tag_fault.TagFault.TheVariants as tags
-use Rattle.union_cols.specs.promise.UnionRules.{UnionFound, union_fault}
+use Rattle.union_cols.specs.promise.UnionRules.{union_fault}
+use Rattle.union_cols.specs.UnionRules.{UnionFound}
 use Rattle.union_cols.specs.promise.UnionSchemas as found
-use Rattle.union_cols.specs.promise.UnionSchemas.{SchemaFound, UnionReads, UnionSchemaFails}
+use Rattle.union_cols.specs.promise.UnionSchemas.{SchemaFound, UnionReads}
 use Rattle.union_cols.specs.promise.Unions.{UnionTree}
 use Rattle.tree_top.specs.promise.TextOrFault.{Answer, Fault, Text}
-use Rattle.tree_top.specs.promise.Answer.{AnswerWithin, IsAnswerTo, ReadAnswer, TreesAnswer, is_too_long}
-use Rattle.tree_top.specs.promise.ChunkAnswer.{ChunkCommand, answer_of_chunk, answer_of_kinds}
-use Rattle.tree_top.specs.promise.FlatAnswer.{flat_of_schema, flat_unless}
-use Rattle.tree_top.specs.promise.ForeignAnswer.{chunk_of_kinds, chunk_unless}
-use Rattle.tree_top.specs.promise.ListsAnswer.{exploded, lines_unless, nested, rows_unless as new_rows_unless, answer_of_column}
-use Rattle.tree_top.specs.promise.Refusals.{own_part_fault, union_schema_fault}
-use Rattle.tree_top.specs.promise.RowsAnswer.{rows_of_kinds, rows_unless}
-use Rattle.tree_top.specs.promise.RunRefusals.{runs_part_fault, runs_schema_fault}
-use Rattle.tree_top.specs.promise.RunsAnswer.{runs_of_array, runs_of_kinds, runs_unless}
-use Rattle.tree_top.specs.promise.TagAnswer.{tags_of_columns, tags_unless}
-use Rattle.tree_top.specs.promise.UnionAnswer.{union_of_schema, union_unless}
-use Rattle.tree_top.specs.promise.Faults.{has_memory_inside, is_decided, is_meta_memory, is_text_memory, rule_has_memory, runs_has_memory, union_has_memory}
+use Rattle.tree_top.specs.promise.Answer.{AnswerWithin, IsAnswerTo, ReadAnswer, TreesAnswer}
+use Rattle.tree_top.specs.Answer.{is_too_long}
+use Rattle.tree_top.specs.AnswerParts.{ChunkCommand, answer_of_chunk, answer_of_kinds}
+use Rattle.tree_top.specs.AnswerParts.{flat_of_schema, flat_unless}
+use Rattle.tree_top.specs.AnswerParts.{chunk_of_kinds, chunk_unless}
+use Rattle.tree_top.specs.AnswerParts.{exploded, lines_unless, nested, new_rows_unless, answer_of_column}
+use Rattle.tree_top.specs.promise.Refusals.{union_schema_fault}
+use Rattle.tree_top.specs.Refusals.{own_part_fault}
+use Rattle.tree_top.specs.AnswerParts.{rows_of_kinds, rows_unless}
+use Rattle.tree_top.specs.promise.RunRefusals.{runs_schema_fault}
+use Rattle.tree_top.specs.RunRefusals.{runs_part_fault}
+use Rattle.tree_top.specs.AnswerParts.{runs_of_array, runs_of_kinds, runs_unless}
+use Rattle.tree_top.specs.AnswerParts.{tags_of_columns, tags_unless}
+use Rattle.tree_top.specs.AnswerParts.{union_of_schema, union_unless}
+use Rattle.tree_top.specs.promise.Faults.{has_memory_inside, rule_has_memory}
+use Rattle.tree_top.specs.Faults.{is_decided}
+use Rattle.tree_top.specs.MemoryFaults.{is_meta_memory, is_text_memory, memory_inside, runs_has_memory, union_has_memory}
 use Rattle.tree_top.specs.declared.command.Command.{Command}
 use Rattle.tree_top.specs.declared.command.Command.TheVariants as commands
 use Rattle.tree_top.specs.declared.fault.TreeRunFault.{TreeRunFault}
@@ -55,7 +66,7 @@ use Rattle.tree_top.specs.declared.fault.TreeRunFault.TheVariants as run
 
 abbrev within : Answer → Bool
 within (Text text) = false
-within (Fault fault) = has_memory_inside fault
+within (Fault fault) = memory_inside fault
 
 -- ---- schemas
 
@@ -173,7 +184,7 @@ of-part : (schema : SchemaTree) (fault : OwnSchemaFault) → OwnSchemaReads sche
 of-part schema (parts.Meta fault) reads = of-meta (members_of schema).metadata fault reads
 of-part schema parts.Dictionary reads = refl
 
-of-union_schema : (schema : SchemaTree) (fault : SchemaFound) → UnionSchemaFails schema fault → union_has_memory (union_schema_fault fault) ≡ false
+of-union_schema : (schema : SchemaTree) (fault : SchemaFound) → UnionReads schema (Err fault) → union_has_memory (union_schema_fault fault) ≡ false
 of-union_schema schema found.IsReleased fails = refl
 of-union_schema schema (found.Format place) fails = refl
 of-union_schema schema (found.OwnPart fault) fails = of-part schema fault fails.2
@@ -211,7 +222,7 @@ of-runs_part : (schema : SchemaTree) (fault : OwnSchemaFault) → OwnSchemaReads
 of-runs_part schema (parts.Meta fault) reads = of-meta (members_of schema).metadata fault reads
 of-runs_part schema parts.Dictionary reads = refl
 
-of-runs_schema : (schema : SchemaTree) (fault : RunsSchemaFound) → RunsSchemaFails schema fault → runs_has_memory (runs_schema_fault fault) ≡ false
+of-runs_schema : (schema : SchemaTree) (fault : RunsSchemaFound) → RunsReads schema (Err fault) → runs_has_memory (runs_schema_fault fault) ≡ false
 of-runs_schema schema runs.IsReleased fails = refl
 of-runs_schema schema runs.Format fails = refl
 of-runs_schema schema (runs.OwnPart fault) fails = of-runs_part schema fault fails.1
@@ -262,13 +273,28 @@ of-answer None bytes answer is = ap within is
 
 -- ---- faults of a run
 
+by-parts : (fault : TreeRunFault) → has_memory_inside fault ≡ memory_inside fault
+by-parts (run.Text texts.NoMemory) = refl
+by-parts (run.UnionSchema (unions.Meta meta.NoMemory)) = refl
+by-parts (run.UnionSchema (unions.Child child (schemas.At path rule))) = refl
+by-parts (run.UnionSchema (unions.Child child schemas.NoMemory)) = refl
+by-parts (run.UnionSchema unions.NoMemory) = refl
+by-parts (run.Tag tags.NoMemory) = refl
+by-parts (run.RunsSchema (run_ends.Meta meta.NoMemory)) = refl
+by-parts (run.RunsSchema (run_ends.Child child (schemas.At path rule))) = refl
+by-parts (run.RunsSchema (run_ends.Child child schemas.NoMemory)) = refl
+by-parts (run.RunsSchema run_ends.NoMemory) = refl
+by-parts (run.Code codings.NoMemory) = refl
+by-parts (run.Lists list_faults.NoMemory) = refl
+by-parts _ = refl
+
 pub of-fault : (command : Option Command) (bytes : List ℕ) (fault : TreeRunFault) → (is_decided fault ≡ true → IsAnswerTo command bytes (Fault fault))
     → has_memory_inside fault ≡ false
-of-fault command bytes (run.Text fault) answer = of-answer command bytes (Fault (run.Text fault)) (answer refl)
-of-fault command bytes (run.Schema path rule) answer = of-answer command bytes (Fault (run.Schema path rule)) (answer refl)
-of-fault command bytes (run.UnionSchema fault) answer = of-answer command bytes (Fault (run.UnionSchema fault)) (answer refl)
-of-fault command bytes (run.Tag fault) answer = of-answer command bytes (Fault (run.Tag fault)) (answer refl)
-of-fault command bytes (run.RunsSchema fault) answer = of-answer command bytes (Fault (run.RunsSchema fault)) (answer refl)
-of-fault command bytes (run.Code fault) answer = of-answer command bytes (Fault (run.Code fault)) (answer refl)
-of-fault command bytes (run.Lists fault) answer = of-answer command bytes (Fault (run.Lists fault)) (answer refl)
+of-fault command bytes (run.Text fault) answer = by-parts _ ∙ of-answer command bytes (Fault (run.Text fault)) (answer refl)
+of-fault command bytes (run.Schema path rule) answer = by-parts _ ∙ of-answer command bytes (Fault (run.Schema path rule)) (answer refl)
+of-fault command bytes (run.UnionSchema fault) answer = by-parts _ ∙ of-answer command bytes (Fault (run.UnionSchema fault)) (answer refl)
+of-fault command bytes (run.Tag fault) answer = by-parts _ ∙ of-answer command bytes (Fault (run.Tag fault)) (answer refl)
+of-fault command bytes (run.RunsSchema fault) answer = by-parts _ ∙ of-answer command bytes (Fault (run.RunsSchema fault)) (answer refl)
+of-fault command bytes (run.Code fault) answer = by-parts _ ∙ of-answer command bytes (Fault (run.Code fault)) (answer refl)
+of-fault command bytes (run.Lists fault) answer = by-parts _ ∙ of-answer command bytes (Fault (run.Lists fault)) (answer refl)
 of-fault command bytes _ answer = refl

@@ -21,7 +21,8 @@ use Rattle.tree_model.specs.promise.TreeParts.{IsLive, children_of}
 use Rattle.data_types.specs.promise.ValueTexts.{lines_text}
 use Rattle.tree_top.specs.promise.ChunkAnswer.{ChunkAnswer}
 use Rattle.tree_top.specs.promise.ForeignAnswer.{row_value}
-use Rattle.tree_top.specs.promise.ListsAnswer.{column_fault, lines_unless, rows_unless, answer_of_column}
+use Rattle.tree_top.specs.promise.ListsAnswer.{column_fault}
+use Rattle.tree_top.specs.AnswerParts.{lines_unless, new_rows_unless as rows_unless, answer_of_column}
 use Rattle.tree_top.specs.Refusals.{fault_of_list}
 use Rattle.tree_top.specs.promise.TextOrFault.{Answer, Fault, Text}
 use Rattle.tree_top.specs.declared.fault.TreeRunFault.{TreeRunFault}

@@ -10,18 +10,24 @@ use Rattle.tree_text.specs.TreeText.{SchemaFits}
 use Rattle.union_cols.specs.promise.UnionSchemas.{SchemaFound, UnionReads}
 use Rattle.union_cols.specs.promise.Unions.{UnionTree}
 use Rattle.tree_top.specs.promise.TextOrFault.{Answer, Fault}
-use Rattle.tree_top.specs.promise.Answer.{AnswerWithin, IsAnswerTo, ReadAnswer, TextAnswer, TreesAnswer, is_too_long}
+use Rattle.tree_top.specs.promise.Answer.{AnswerWithin, IsAnswerTo, ReadAnswer, TextAnswer, TreesAnswer}
+use Rattle.tree_top.specs.Answer.{is_too_long}
 use Rattle.run_ends.specs.promise.RunSchemas.{RunsReads}
 use Rattle.run_ends.specs.promise.RunSchemas.{SchemaFound as RunsSchemaFound}
 use Rattle.run_ends.specs.promise.Runs.{RunTree}
-use Rattle.tree_top.specs.promise.ChunkAnswer.{ChunkAnswer, ChunkCommand, answer_of_kinds}
-use Rattle.tree_top.specs.promise.FlatAnswer.{FlatAnswer, flat_of_schema}
-use Rattle.tree_top.specs.promise.ForeignAnswer.{ForeignAnswer, chunk_of_kinds}
-use Rattle.tree_top.specs.promise.ListsAnswer.{exploded, nested, answer_of_column}
-use Rattle.tree_top.specs.promise.RowsAnswer.{RowsAnswer, rows_of_kinds}
-use Rattle.tree_top.specs.promise.RunsAnswer.{RunsAnswer, runs_of_kinds}
-use Rattle.tree_top.specs.promise.TagAnswer.{tags_of_columns}
-use Rattle.tree_top.specs.promise.UnionAnswer.{UnionAnswer, union_of_schema}
+use Rattle.tree_top.specs.promise.ChunkAnswer.{ChunkAnswer}
+use Rattle.tree_top.specs.AnswerParts.{ChunkCommand, answer_of_kinds}
+use Rattle.tree_top.specs.promise.FlatAnswer.{FlatAnswer}
+use Rattle.tree_top.specs.AnswerParts.{flat_of_schema}
+use Rattle.tree_top.specs.promise.ForeignAnswer.{ForeignAnswer}
+use Rattle.tree_top.specs.AnswerParts.{chunk_of_kinds}
+use Rattle.tree_top.specs.AnswerParts.{answer_of_column, exploded, nested, rows_of_kinds}
+use Rattle.tree_top.specs.promise.RowsAnswer.{RowsAnswer}
+use Rattle.tree_top.specs.promise.RunsAnswer.{RunsAnswer}
+use Rattle.tree_top.specs.AnswerParts.{runs_of_kinds}
+use Rattle.tree_top.specs.AnswerParts.{tags_of_columns}
+use Rattle.tree_top.specs.promise.UnionAnswer.{UnionAnswer}
+use Rattle.tree_top.specs.AnswerParts.{union_of_schema}
 use Rattle.tree_top.proofs.SomeRuns.{some-runs}
 use Rattle.tree_top.proofs.SomeUnion.{SomeFormat, SomeKinds, SomeMetadata, some-union}
 use Rattle.tree_top.specs.declared.command.Command.{Command}

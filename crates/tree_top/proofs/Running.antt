@@ -31,12 +31,13 @@ use Rattle.tree_check.specs.declared.fault.CheckFault.{CheckFault}
 use Rattle.data_types.specs.promise.ValueTexts.{lines_text, value_line}
 use Rattle.value_text.proofs.Parts.{lines-more}
 use Rattle.value_text.specs.Lengths.{capped}
-use Rattle.tree_top.specs.promise.FlatAnswer.{FlatAnswer, flat_unless}
+use Rattle.tree_top.specs.promise.FlatAnswer.{FlatAnswer}
+use Rattle.tree_top.specs.AnswerParts.{flat_unless, runs_of_array}
 use Rattle.tree_top.specs.Refusals.{fault_of_check}
 use Rattle.tree_top.specs.RunLines.{Reaches}
 use Rattle.tree_top.specs.promise.RunRefusals.{runs_fault_told}
 use Rattle.tree_top.specs.RunRefusals.{fault_of_runs_schema}
-use Rattle.tree_top.specs.promise.RunsAnswer.{RunsAnswer, runs_of_array}
+use Rattle.tree_top.specs.promise.RunsAnswer.{RunsAnswer}
 use Rattle.tree_top.specs.promise.TextOrFault.{Fault, Text}
 use Rattle.tree_top.specs.declared.fault.TreeRunFault.{TreeRunFault}
 use Rattle.tree_top.specs.declared.fault.TreeRunFault.TheVariants as run

@@ -2,8 +2,8 @@
 use Rattle.std.proofs.Common.{ℕ, ◌≡◌, ◌∙◌, true, false, List, Option, None, Some, IfSome, Result, Ok, Err, IfErr, OnOk, ap, sym, subst}
 use Rattle.tree_top.specs.promise.TextOrFault.{Fault}
 use Rattle.tree_top.specs.promise.Answer.{IsAnswerTo}
-use Rattle.tree_top.specs.promise.Faults.{has_memory_inside, is_decided}
-use Rattle.tree_top.specs.Faults.{fault_in}
+use Rattle.tree_top.specs.promise.Faults.{has_memory_inside}
+use Rattle.tree_top.specs.Faults.{fault_in, is_decided}
 use Rattle.tree_top.specs.promise.Over.{RanOver}
 use Rattle.tree_top.specs.declared.command.Command.{Command}
 use Rattle.tree_top.specs.declared.fault.TreeRunFault.{TreeRunFault}

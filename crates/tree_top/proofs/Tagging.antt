@@ -12,8 +12,8 @@ use Rattle.union_cols.specs.declared.tag_fault.TagFault.{TagFault}
 use Rattle.union_cols.specs.declared.tag_fault.TagFault.TheVariants as tags
 use Rattle.tree_top.specs.promise.TextOrFault.{Answer, Fault, Text}
 use Rattle.tree_top.specs.Refusals.{fault_of_tag}
-use Rattle.tree_top.specs.promise.TagAnswer.{tags_unless}
-use Rattle.tree_top.specs.promise.UnionAnswer.{UnionAnswer, items_text, union_of_schema, union_unless}
+use Rattle.tree_top.specs.AnswerParts.{tags_unless, union_of_schema, union_unless}
+use Rattle.tree_top.specs.promise.UnionAnswer.{UnionAnswer, items_text}
 use Rattle.tree_top.specs.declared.fault.TreeRunFault.{TreeRunFault}
 use Rattle.tree_top.specs.declared.fault.TreeRunFault.TheVariants as run
 use Rattle.tree_top.proofs.Coming.{IsRefused}

@@ -7,7 +7,7 @@ use Rattle.layout_rules.specs.promise.Values.{each}
 use Rattle.data_types.specs.NumberedTexts.{numbered_line}
 use Rattle.value_text.proofs.Parts.{each-more}
 use Rattle.union_cols.specs.promise.Unions.{UnionItem}
-use Rattle.tree_top.specs.promise.UnionAnswer.{numbered_item}
+use Rattle.tree_top.specs.AnswerParts.{numbered_item}
 
 -- the lines of some items
 abbrev pub item_lines : List UnionItem → List ℕ

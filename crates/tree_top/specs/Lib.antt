@@ -6,3 +6,5 @@ pub mod RunRefusals
 pub mod Gathered
 pub mod RunLines
 pub mod NewLengths
+pub mod AnswerParts
+pub mod MemoryFaults

@@ -2,24 +2,36 @@
 use Rattle.data_types.specs.promise.Ways.{path_of, steps_of}
 use Rattle.list_cols.specs.declared.fault.ListFault.{ListFault}
 use Rattle.list_cols.specs.declared.fault.ListFault.TheVariants as lists
+use Rattle.root_check.specs.declared.own_schema.OwnSchemaFault.{OwnSchemaFault}
 use Rattle.schema_check.specs.declared.schema.SchemaFault.TheVariants as schema
 use Rattle.tree_check.specs.declared.fault.CheckFault.{CheckFault}
 use Rattle.tree_check.specs.declared.fault.CheckFault.TheVariants as check
+use Rattle.tree_check.specs.declared.fault.TreeFault.{TreeFault}
+use Rattle.tree_check.specs.declared.fault.TreeFault.TheVariants as trees
+use Rattle.union_cols.specs.promise.UnionSchemas as found
 use Rattle.union_cols.specs.declared.schema_fault.UnionSchemaFault.{UnionSchemaFault}
 use Rattle.union_cols.specs.declared.schema_fault.UnionSchemaFault.TheVariants as faults
 use Rattle.union_cols.specs.declared.tag_fault.TagFault.{TagFault}
 use Rattle.union_cols.specs.declared.tag_fault.TagFault.TheVariants as tags
 use Rattle.tree_top.specs.declared.fault.TreeRunFault.{TreeRunFault}
 use Rattle.tree_top.specs.declared.fault.TreeRunFault.TheVariants as run
-use Rattle.tree_top.specs.promise.Refusals.{fault_of_tree}
+use Rattle.tree_top.specs.promise.Refusals.{union_schema_fault}
 
 -- ---- texts, schemas and arrays
+
+abbrev pub fault_of_tree : TreeFault → TreeRunFault
+fault_of_tree (trees.Text fault) = run.Text fault
+fault_of_tree (trees.Schema path rule) = run.Schema path rule
+fault_of_tree (trees.Layout fault) = run.Layout fault
 
 abbrev pub fault_of_check : CheckFault → TreeRunFault
 fault_of_check (check.Tree fault) = fault_of_tree fault
 fault_of_check check.NoMemory = run.NoMemory
 
 -- ---- a union's schema: the fault that tells what was found, and that of the check
+
+abbrev pub own_part_fault : OwnSchemaFault → UnionSchemaFault
+own_part_fault fault = union_schema_fault (found.OwnPart fault)
 
 abbrev pub fault_of_union_schema : UnionSchemaFault → TreeRunFault
 fault_of_union_schema faults.Released = run.UnionSchema faults.Released

@@ -7,7 +7,7 @@ use Rattle.raw_array.specs.promise.Members.{ArrayTree, members_of}
 use Rattle.run_ends.specs.promise.RunCoding.{runs_from}
 use Rattle.run_ends.specs.promise.Runs.{RunTree, run_of}
 use Rattle.data_types.specs.NumberedTexts.{numbered_line}
-use Rattle.tree_top.specs.promise.RunsAnswer.{numbered_run}
+use Rattle.tree_top.specs.AnswerParts.{numbered_run}
 
 -- those of the runs from an item on
 abbrev pub run_lines : ℕ → List Value → List ℕ

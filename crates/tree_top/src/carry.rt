@@ -3,10 +3,10 @@ ghost use Rattle.std.specs.Prelude.{◌≡◌, ◌≢◌, ◌≤◌, ◌+◌, �
 ghost use Rattle.std.specs.Io.KnownBytes.{IsAtEnd, Keeps};
 ghost use Rattle.edge_io.specs.promise.Edge.{LosesWithin, Rose};
 ghost use Rattle.unit_pass.specs.declared.pass.TheConstants.{ROOM};
-ghost use Rattle.tree_top.specs.promise.Answer.{AreBytes, input_limit};
-ghost use Rattle.tree_top.specs.Answer.{IsTooLong};
-ghost use Rattle.tree_top.specs.promise.Faults.{AtWriteFault, cause_of, is_write_fault};
-ghost use Rattle.tree_top.specs.Faults.{fault_in};
+ghost use Rattle.tree_top.specs.promise.Answer.{input_limit};
+ghost use Rattle.tree_top.specs.Answer.{AreBytes, IsTooLong};
+ghost use Rattle.tree_top.specs.promise.Faults.{cause_of};
+ghost use Rattle.tree_top.specs.Faults.{AtWriteFault, fault_in, is_write_fault};
 ghost use Rattle.tree_top.specs.promise.Over.{RanOver, ReadFor};
 
 use crate::answer::answer_text;

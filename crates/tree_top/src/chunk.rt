@@ -7,7 +7,8 @@ ghost use Rattle.layout_rules.specs.promise.Values.{rows_of};
 ghost use Rattle.layout_rules.specs.promise.Walk.{ChunkOk, first_chunk_fault};
 ghost use Rattle.schema_check.specs.promise.Schemas.{TypedOf};
 ghost use Rattle.data_types.specs.promise.ValueTexts.{lines_text};
-ghost use Rattle.tree_top.specs.promise.ChunkAnswer.{ChunkAnswer, ChunkCommand};
+ghost use Rattle.tree_top.specs.promise.ChunkAnswer.{ChunkAnswer};
+ghost use Rattle.tree_top.specs.AnswerParts.{ChunkCommand};
 ghost use Rattle.tree_top.specs.promise.ForeignAnswer.{row_value};
 ghost use Rattle.tree_top.specs.promise.TextOrFault.{Fault};
 

@@ -1,7 +1,8 @@
 //! The commands of the program for trees, and the words that spell them.
 ghost use Rattle.std.specs.Prelude.{◌≡◌, string_bytes};
 ghost use Rattle.std.specs.Str.{bytes_eq};
-ghost use Rattle.tree_top.specs.promise.Answer.{command_named, command_of, command_of_column, texts_of};
+ghost use Rattle.tree_top.specs.promise.Answer.{command_named, command_of, texts_of};
+ghost use Rattle.tree_top.specs.Answer.{command_of_column};
 ghost use Rattle.tree_top.specs.promise.Columns.{column_number};
 
 use crate::column_number::column_number;

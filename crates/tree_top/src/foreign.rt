@@ -10,7 +10,8 @@ ghost use Rattle.tree_model.specs.promise.TreeData.{Released};
 ghost use Rattle.foreign_array.specs.Kept.{tree_in};
 ghost use Rattle.unit_pass.specs.promise.Tally.{risen};
 ghost use Rattle.unit_pass.specs.declared.pass.TheConstants.{SUPPLY};
-ghost use Rattle.tree_top.specs.promise.ForeignAnswer.{ForeignAnswer, chunk_unless};
+ghost use Rattle.tree_top.specs.promise.ForeignAnswer.{ForeignAnswer};
+ghost use Rattle.tree_top.specs.AnswerParts.{chunk_unless};
 ghost use Rattle.tree_top.specs.promise.TextOrFault.{Fault, Text};
 
 use crate::fault::TreeRunFault;

@@ -2,7 +2,8 @@
 ghost use Rattle.std.specs.Prelude.{◌≡◌, ℕ, List, Option, true, false};
 ghost use Rattle.tree_top.specs.promise.TextOrFault.{Answer, Fault};
 ghost use Rattle.tree_top.specs.promise.Answer.{IsAnswerTo};
-ghost use Rattle.tree_top.specs.promise.Faults.{has_memory_inside, is_decided};
+ghost use Rattle.tree_top.specs.promise.Faults.{has_memory_inside};
+ghost use Rattle.tree_top.specs.Faults.{is_decided};
 ghost use Rattle.tree_top.specs.declared.command.Command.{Command as ACommand};
 ghost use Rattle.tree_top.specs.declared.fault.TreeRunFault.{TreeRunFault as AFault};
 

@@ -15,7 +15,8 @@ ghost use Rattle.tree_model.specs.promise.TreeParts.{children_of};
 ghost use Rattle.unit_pass.specs.promise.Tally.{risen};
 ghost use Rattle.unit_pass.specs.declared.pass.TheConstants.{CHUNK, SUPPLY};
 ghost use Rattle.tree_top.specs.promise.ChunkAnswer.{ChunkAnswer};
-ghost use Rattle.tree_top.specs.promise.ListsAnswer.{ExplodeAnswer, column_fault, exploded, answer_of_column};
+ghost use Rattle.tree_top.specs.promise.ListsAnswer.{ExplodeAnswer, column_fault};
+ghost use Rattle.tree_top.specs.AnswerParts.{exploded, answer_of_column};
 ghost use Rattle.tree_top.specs.promise.TextOrFault.{Answer, Fault, Text};
 
 use crate::chunk::{chunk_kinds, chunk_lines};

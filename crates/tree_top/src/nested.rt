@@ -13,7 +13,8 @@ ghost use Rattle.schema_check.specs.promise.Schemas.{TypedOf};
 ghost use Rattle.tree_model.specs.promise.TreeParts.{children_of};
 ghost use Rattle.unit_pass.specs.promise.Tally.{risen};
 ghost use Rattle.unit_pass.specs.declared.pass.TheConstants.{CHUNK, SUPPLY};
-ghost use Rattle.tree_top.specs.promise.ListsAnswer.{NestAnswer, nested};
+ghost use Rattle.tree_top.specs.promise.ListsAnswer.{NestAnswer};
+ghost use Rattle.tree_top.specs.AnswerParts.{nested};
 ghost use Rattle.tree_top.specs.promise.TextOrFault.{Fault, Text};
 
 use crate::chunk::chunk_lines;

@@ -11,7 +11,8 @@ ghost use Rattle.run_ends.specs.ColumnRuns.{values_in};
 ghost use Rattle.run_ends.specs.RunCoding.{IsRun};
 ghost use Rattle.data_types.specs.NumberedTexts.{numbered_line};
 ghost use Rattle.tree_top.specs.RunLines.{run_lines};
-ghost use Rattle.tree_top.specs.promise.RunsAnswer.{RunsAnswer, runs_of_column, runs_text};
+ghost use Rattle.tree_top.specs.promise.RunsAnswer.{RunsAnswer, runs_text};
+ghost use Rattle.tree_top.specs.AnswerParts.{runs_of_column};
 ghost use Rattle.tree_top.specs.promise.TextOrFault.{Fault, Text};
 
 use crate::fault::TreeRunFault;

@@ -10,7 +10,8 @@ ghost use Rattle.schema_check.specs.promise.Schemas.{TypedOf};
 ghost use Rattle.union_cols.specs.promise.Tags.{tag_blocks};
 ghost use Rattle.unit_pass.specs.promise.Tally.{risen};
 ghost use Rattle.unit_pass.specs.declared.pass.TheConstants.{SUPPLY};
-ghost use Rattle.tree_top.specs.promise.TagAnswer.{TagAnswer, tags_of_columns};
+ghost use Rattle.tree_top.specs.promise.TagAnswer.{TagAnswer};
+ghost use Rattle.tree_top.specs.AnswerParts.{tags_of_columns};
 ghost use Rattle.tree_top.specs.promise.TextOrFault.{Fault, Text};
 
 use crate::chunk::chunk_kinds;

@@ -6,11 +6,12 @@ ghost use Rattle.raw_array.specs.promise.Members.{members_of};
 ghost use Rattle.union_cols.specs.UnionCols.{array_in, kinds_in};
 ghost use Rattle.union_cols.specs.UnionAnswers.{union_of};
 ghost use Rattle.union_cols.specs.UnionRules.{UnionOk};
-ghost use Rattle.union_cols.specs.promise.Unions.{union_item, union_items};
-ghost use Rattle.union_cols.specs.Unions.{UnionTypedOk};
+ghost use Rattle.union_cols.specs.promise.Unions.{union_items};
+ghost use Rattle.union_cols.specs.Unions.{UnionTypedOk, union_item};
 ghost use Rattle.data_types.specs.NumberedTexts.{numbered_line};
 ghost use Rattle.tree_top.specs.promise.TextOrFault.{Fault, Text};
-ghost use Rattle.tree_top.specs.promise.UnionAnswer.{UnionAnswer, items_text, numbered_item};
+ghost use Rattle.tree_top.specs.promise.UnionAnswer.{UnionAnswer, items_text};
+ghost use Rattle.tree_top.specs.AnswerParts.{numbered_item};
 
 use crate::fault::TreeRunFault;
 use crate::union_length::union_length;

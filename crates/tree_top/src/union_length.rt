@@ -5,11 +5,12 @@ ghost use Rattle.raw_array.specs.promise.Members.{members_of};
 ghost use Rattle.union_cols.specs.UnionAnswers.{union_of};
 ghost use Rattle.union_cols.specs.UnionCols.{array_in, kinds_in};
 ghost use Rattle.union_cols.specs.UnionRules.{UnionOk};
-ghost use Rattle.union_cols.specs.promise.Unions.{union_item, union_items, union_value};
-ghost use Rattle.union_cols.specs.Unions.{UnionTypedOk};
+ghost use Rattle.union_cols.specs.promise.Unions.{union_items, union_value};
+ghost use Rattle.union_cols.specs.Unions.{UnionTypedOk, union_item};
 ghost use Rattle.value_text.specs.Lengths.{TellsKids, capped, text_length};
 ghost use Rattle.data_types.specs.NumberedTexts.{numbered_line};
-ghost use Rattle.tree_top.specs.promise.UnionAnswer.{items_text, numbered_item};
+ghost use Rattle.tree_top.specs.promise.UnionAnswer.{items_text};
+ghost use Rattle.tree_top.specs.AnswerParts.{numbered_item};
 
 use crate::union::count_items;
 use raw_array::RawArray;

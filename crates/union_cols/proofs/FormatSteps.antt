@@ -9,7 +9,8 @@ use Rattle.std.proofs.lemmas.List.Elements.{All-push}
 use Rattle.std.proofs.lemmas.List.Folds.{Any-from_list_any, list_any_at}
 use Rattle.std.proofs.lemmas.List.Quantifiers.{all_pairs_push}
 use Rattle.fmt_string.specs.promise.FormatString.{IsPrefix, IsNumber, NumberThen, StartsWith, StartsWithDigit}
-use Rattle.union_cols.specs.promise.UnionFormats.{keyword, joined, AreIds, UnionFormatIs, ids_before, NoNewId, StartsOtherwise, IdsFault}
+use Rattle.union_cols.specs.promise.UnionFormats.{keyword, joined, AreIds, UnionFormatIs, ids_before, NoNewId, StartsOtherwise}
+use Rattle.union_cols.specs.UnionFormats.{IdsFault}
 use Rattle.union_cols.specs.promise.UnionFormats.{UnionFormatFault}
 use Rattle.union_cols.proofs.Formats.{decimal_of, text_push, joined_push}
 

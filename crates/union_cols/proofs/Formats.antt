@@ -8,8 +8,8 @@ use Rattle.std.proofs.lemmas.Fmt.{decimal_is_IsNumeral, decimal_digit, first_dec
 use Rattle.std.proofs.lemmas.Str.Parse.{IsNumeralModel, numerals_by_value, tells_digits}
 use Rattle.fmt_string.specs.promise.FormatString.{comma, IsNumber, IsPrefix, StartsWith, StartsWithDigit}
 use Rattle.fmt_string.proofs.Rereading.{number_of, number_again, no_number}
-use Rattle.union_cols.specs.promise.UnionFormats.{UnionFormat, keyword, joined, AreIds, ids_before, NoNewId, StartsOtherwise, IdsFault}
-use Rattle.union_cols.specs.UnionFormats.{FormatReads}
+use Rattle.union_cols.specs.promise.UnionFormats.{UnionFormat, keyword, joined, AreIds, ids_before, NoNewId, StartsOtherwise}
+use Rattle.union_cols.specs.UnionFormats.{FormatReads, IdsFault}
 
 -- ---- the digits of an id
 

@@ -25,9 +25,12 @@ use Rattle.root_check.specs.declared.own.OwnFault.{OwnFault}
 use Rattle.root_check.specs.promise.OwnRules.{own_fault}
 use Rattle.root_check.specs.OwnRules.{OwnHolds}
 use Rattle.root_check.specs.promise.Children.{ChildFault, children_fault}
-use Rattle.union_cols.specs.promise.Unions.{UnionTree, id_at, start_at, child_of, child_number, item_number, or_zero}
-use Rattle.union_cols.specs.promise.UnionRules.{Rule, BufferAbsent, BufferShort, BadTypeId, ChildShort, OffsetRange, WindowTooLong, buffer_count, need, buffer_absent, buffer_short}
-use Rattle.union_cols.specs.promise.UnionRules.{bad_id, bad_start, own_rule, child_rule, by, union_fault}
+use Rattle.union_cols.specs.promise.Unions.{UnionTree, id_at, start_at, child_of, child_number, or_zero}
+use Rattle.union_cols.specs.Unions.{item_number}
+use Rattle.union_cols.specs.promise.UnionRules.{Rule, BufferAbsent, BufferShort, BadTypeId, ChildShort, OffsetRange, WindowTooLong, need}
+use Rattle.union_cols.specs.UnionRules.{buffer_absent, buffer_count, buffer_short, child_rule, own_rule}
+use Rattle.union_cols.specs.promise.UnionRules.{bad_id, bad_start, union_fault}
+use Rattle.root_check.specs.promise.Found.{by}
 use Rattle.union_cols.specs.UnionHolds.{IsReadable, UnionHolds}
 
 -- ---- answers that are none

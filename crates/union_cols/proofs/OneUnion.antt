@@ -22,8 +22,8 @@ use Rattle.union_cols.specs.declared.kinds.UnionTyped.{UnionTyped}
 use Rattle.union_cols.specs.declared.schema_fault.UnionSchemaFault.{UnionSchemaFault}
 use Rattle.union_cols.specs.promise.UnionFormats.{UnionFormat, UnionFormatIs, UnionFormatFault}
 use Rattle.union_cols.specs.promise.Unions.{UnionTree}
-use Rattle.union_cols.specs.Unions.{UnionTypedOk}
-use Rattle.union_cols.specs.promise.UnionSchemas.{format_of, IsUnion, IsPlainUnion, UnionOf, SchemaFound, IsReleased, Format, OwnPart, ChildCount, Child, UnionReads}
+use Rattle.union_cols.specs.Unions.{UnionTypedOk, format_of}
+use Rattle.union_cols.specs.promise.UnionSchemas.{IsUnion, IsPlainUnion, UnionOf, SchemaFound, IsReleased, Format, OwnPart, ChildCount, Child, UnionReads}
 use Rattle.union_cols.specs.SchemaParts.{own_refused, kids_refused}
 use Rattle.union_cols.specs.UnionAnswers.{union_of, named, IsUnionFault, FailsIf, GivesIf, GivesUnion}
 use Rattle.union_cols.proofs.Formats.{one_format}

@@ -11,8 +11,8 @@ use Rattle.std.proofs.lemmas.Str.{digit_value_digit}
 use Rattle.fmt_string.specs.promise.FormatString.{IsDigit, IsPrefix, NoNumber, NumberThen, StartsWithDigit}
 use Rattle.fmt_string.proofs.Digits.{digit_in, digit_out, front_within, number_front}
 use Rattle.fmt_string.proofs.OneAnswer.{begins, front}
-use Rattle.union_cols.specs.promise.UnionFormats.{AreIds, IdsFault, UnionFormat, ids_before, joined, keyword}
-use Rattle.union_cols.specs.UnionFormats.{FormatReads}
+use Rattle.union_cols.specs.promise.UnionFormats.{AreIds, UnionFormat, ids_before, joined, keyword}
+use Rattle.union_cols.specs.UnionFormats.{FormatReads, IdsFault}
 use Rattle.union_cols.proofs.FormatSteps.{behind_id, format_is, front_id, last_id, missing_id, named_before, next_id, no_ids, push_id}
 
 -- ---- a number in front

@@ -23,7 +23,8 @@ use Rattle.array_laws.proofs.ChunkParts.{StructFacts, struct-facts}
 use Rattle.array_laws.proofs.StructLaw.{readers-are}
 use Rattle.array_laws.proofs.WindowItems.{each-same, length-each}
 use Rattle.array_laws.proofs.WindowTree.{window-fits, window-item, window-lawful}
-use Rattle.union_cols.specs.promise.Unions.{id_at, or_zero, union_item, union_items, union_value}
+use Rattle.union_cols.specs.promise.Unions.{id_at, or_zero, union_items, union_value}
+use Rattle.union_cols.specs.Unions.{union_item}
 use Rattle.union_cols.specs.promise.UnionRules.{union_fault}
 use Rattle.union_cols.specs.promise.Tags.{tag_of, tagged_item, tagged_items}
 use Rattle.union_cols.specs.Tags.{cut_columns, tag_members}

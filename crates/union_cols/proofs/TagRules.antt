@@ -18,11 +18,16 @@ use Rattle.layout_rules.specs.promise.Walk.{LayoutOk, first_fault}
 use Rattle.layout_rules.proofs.Lawful.{lawful-first_fault}
 use Rattle.array_laws.proofs.NodeParts.{both-none, no-fault, below-none}
 use Rattle.root_check.specs.declared.own.OwnRule.TheVariants as own_rules
-use Rattle.root_check.specs.promise.OwnRules.{own_found, own_fault}
-use Rattle.root_check.specs.promise.Children.{at_child, children_fault}
-use Rattle.union_cols.specs.promise.Unions.{UnionTree, id_at, start_at, child_of, child_number, item_number, or_zero, union_value}
-use Rattle.union_cols.specs.promise.UnionRules.{BufferAbsent, BufferShort, BadTypeId, ChildShort, OffsetRange, WindowTooLong, buffer_count, need, buffer_absent, buffer_short}
-use Rattle.union_cols.specs.promise.UnionRules.{bad_id, bad_start, own_rule, child_rule, by, union_fault}
+use Rattle.root_check.specs.promise.OwnRules.{own_fault}
+use Rattle.root_check.specs.OwnRules.{own_found}
+use Rattle.root_check.specs.promise.Children.{children_fault}
+use Rattle.root_check.specs.Children.{at_child}
+use Rattle.union_cols.specs.promise.Unions.{UnionTree, id_at, start_at, child_of, child_number, or_zero, union_value}
+use Rattle.union_cols.specs.Unions.{item_number}
+use Rattle.union_cols.specs.promise.UnionRules.{BufferAbsent, BufferShort, BadTypeId, ChildShort, OffsetRange, WindowTooLong, need}
+use Rattle.union_cols.specs.UnionRules.{buffer_absent, buffer_count, buffer_short, child_rule, own_rule}
+use Rattle.union_cols.specs.promise.UnionRules.{bad_id, bad_start, union_fault}
+use Rattle.root_check.specs.promise.Found.{by}
 use Rattle.union_cols.specs.Tags.{block_of, numbers, start_bytes, tag_members}
 use Rattle.union_cols.proofs.Numbering.{length-starts, meant-byte, number-of-byte, place-of-number, start-of-number}
 

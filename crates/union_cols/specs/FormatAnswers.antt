@@ -3,7 +3,8 @@ use Rattle.std.specs.Prelude.{ℕ, ◌≤◌, List}
 use Rattle.union_cols.specs.declared.format.UnionFormat.{UnionFormat as CodeFormat}
 use Rattle.union_cols.specs.declared.format.FormatFault.{FormatFault}
 use Rattle.union_cols.specs.declared.format.FormatFault.TheVariants.{At, NoMemory}
-use Rattle.union_cols.specs.promise.UnionFormats.{UnionFormat, UnionFormatFault, IdsFault}
+use Rattle.union_cols.specs.promise.UnionFormats.{UnionFormat, UnionFormatFault}
+use Rattle.union_cols.specs.UnionFormats.{IdsFault}
 
 abbrev pub format_in : CodeFormat → UnionFormat
 format_in format = record { dense = format.dense; ids = format.ids.items }

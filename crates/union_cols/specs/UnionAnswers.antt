@@ -15,9 +15,10 @@ use Rattle.union_cols.specs.declared.rule.UnionRule.{UnionRule}
 use Rattle.union_cols.specs.declared.rule.UnionRule.TheVariants as rules
 use Rattle.union_cols.specs.declared.rule.UnionFault.{UnionFault}
 use Rattle.union_cols.specs.promise.Unions.{UnionTree}
-use Rattle.union_cols.specs.promise.UnionRules.{Rule, Own, BufferAbsent, BufferShort, BadTypeId, Child, ChildShort, OffsetRange, WindowTooLong, UnionFound}
+use Rattle.union_cols.specs.promise.UnionRules.{Rule, Own, BufferAbsent, BufferShort, BadTypeId, Child, ChildShort, OffsetRange, WindowTooLong}
+use Rattle.union_cols.specs.UnionRules.{UnionFound}
 use Rattle.union_cols.specs.promise.UnionSchemas as schemas
-use Rattle.union_cols.specs.promise.UnionSchemas.{SchemaFound, UnionSchemaFails}
+use Rattle.union_cols.specs.promise.UnionSchemas.{SchemaFound, UnionReads}
 
 -- the kinds that the code keeps
 abbrev pub union_of : UnionTyped → UnionTree
@@ -44,7 +45,7 @@ IsWhole _ = Unit {0}
 
 abbrev pub FailsIf : SchemaTree → Option SchemaFound → Type 0
 FailsIf schema None = Unit {0}
-FailsIf schema (Some found) = UnionSchemaFails schema found
+FailsIf schema (Some found) = UnionReads schema (Err found)
 
 -- It is the first fault, if it is no out-of-memory, which is never inside another fault.
 abbrev pub IsUnionFault : SchemaTree → UnionSchemaFault → Type 0

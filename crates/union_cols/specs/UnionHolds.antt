@@ -8,8 +8,9 @@ use Rattle.layout_rules.specs.promise.Rules.{window_limit}
 use Rattle.layout_rules.specs.promise.Values.{tree_items}
 use Rattle.layout_rules.specs.promise.Walk.{LayoutOk}
 use Rattle.root_check.specs.OwnRules.{OwnHolds}
-use Rattle.union_cols.specs.promise.Unions.{UnionTree, id_at, start_at, child_of, child_number, item_number}
-use Rattle.union_cols.specs.promise.UnionRules.{buffer_count}
+use Rattle.union_cols.specs.promise.Unions.{UnionTree, id_at, start_at, child_of, child_number}
+use Rattle.union_cols.specs.Unions.{item_number}
+use Rattle.union_cols.specs.UnionRules.{buffer_count}
 
 -- the buffers have an id, and an offset where the union is dense, for each place up to the window's end
 pub record IsReadable (dense : Bool) (own : ArrayMembers) : Type 0 where

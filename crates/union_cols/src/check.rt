@@ -5,8 +5,9 @@ ghost use Rattle.raw_array.specs.promise.Members.{ArrayTree, members_of};
 ghost use Rattle.layout_rules.specs.promise.Layout.{items};
 ghost use Rattle.layout_rules.specs.promise.Rules.{first_below};
 ghost use Rattle.union_cols.specs.Unions.{UnionTypedOk};
-ghost use Rattle.union_cols.specs.promise.UnionRules.{bad_id, place_answers, first_answer, union_fault, by};
-ghost use Rattle.union_cols.specs.UnionRules.{UnionOk};
+ghost use Rattle.union_cols.specs.promise.UnionRules.{bad_id, union_fault};
+ghost use Rattle.root_check.specs.promise.Found.{by};
+ghost use Rattle.union_cols.specs.UnionRules.{UnionOk, first_answer, place_answers};
 ghost use Rattle.union_cols.specs.UnionHolds.{IsReadable};
 ghost use Rattle.union_cols.specs.UnionAnswers.{union_of, rule_of, found_union};
 

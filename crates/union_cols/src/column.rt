@@ -36,8 +36,8 @@ impl<'a> UnionCol<'a> {
     ghost use Rattle.arr_import.specs.Cols.{window_of};
     ghost use Rattle.arr_import.specs.Shown.{Shows};
     ghost use Rattle.arr_import.specs.Window.{whole};
-    ghost use Rattle.union_cols.specs.promise.Unions.{id_at, child_number, item_number, kid_at, union_value};
-    ghost use Rattle.union_cols.specs.Unions.{UnionTypedOk};
+    ghost use Rattle.union_cols.specs.promise.Unions.{id_at, child_number, union_value};
+    ghost use Rattle.union_cols.specs.Unions.{UnionTypedOk, item_number, kid_at};
     ghost use Rattle.union_cols.specs.UnionRules.{UnionOk};
     ghost use Rattle.union_cols.specs.UnionCols.{kinds_in, array_in};
 

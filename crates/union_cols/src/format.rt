@@ -1,7 +1,8 @@
 //! The format string of a union read, or the place of its first fault.
 ghost use Rattle.std.specs.Prelude.{◌≡◌, ◌+◌, ◌<◌, ◌≤◌, ◌^◌, ◌++◌, ◌∷◌, [], length, IfOk, IfErr, IfSome, IfNone, IsTrue, ◌↔◌, decimal, map, codes, Bool};
 ghost use Rattle.fmt_string.specs.promise.FormatString.{IsPrefix, StartsWith, StartsWithDigit};
-ghost use Rattle.union_cols.specs.promise.UnionFormats.{UnionFormatIs, UnionFormatFault, AreIds, NoNewId, IdsFault, keyword, joined};
+ghost use Rattle.union_cols.specs.promise.UnionFormats.{UnionFormatIs, UnionFormatFault, AreIds, NoNewId, keyword, joined};
+ghost use Rattle.union_cols.specs.UnionFormats.{IdsFault};
 ghost use Rattle.union_cols.specs.FormatAnswers.{format_in, IsFormatFault, IsListFault, IsWithin};
 ghost use Rattle.union_cols.specs.declared.format.FormatFault.TheVariants as faults;
 

@@ -4,7 +4,7 @@ ghost use Rattle.tree_model.specs.promise.TreeParts.{IsLive};
 ghost use Rattle.raw_array.specs.promise.Members.{ArrayTree, members_of};
 ghost use Rattle.layout_rules.specs.promise.Layout.{first, end, bytes};
 ghost use Rattle.layout_check.specs.Formed.{IsLive-prop};
-ghost use Rattle.union_cols.specs.promise.UnionRules.{buffer_count};
+ghost use Rattle.union_cols.specs.UnionRules.{buffer_count};
 
 use crate::id_table::IdTable;
 use bit_pack::{int_at, offset_at};
@@ -55,7 +55,8 @@ impl<'a> UnionNode<'a> {
     ghost use Rattle.layout_rules.specs.promise.Layout.{items};
     ghost use Rattle.layout_rules.specs.promise.Rules.{first_below};
     ghost use Rattle.union_cols.specs.promise.Unions.{id_at, start_at, child_number};
-    ghost use Rattle.union_cols.specs.promise.UnionRules.{need, buffer_absent, buffer_short, bad_id, bad_start};
+    ghost use Rattle.union_cols.specs.promise.UnionRules.{need, bad_id, bad_start};
+    ghost use Rattle.union_cols.specs.UnionRules.{buffer_absent, buffer_short};
 
     /// The node of an array that the rules on its own numbers and parts hold of.
     pub(crate) fn of(dense: bool, array: &'a RawArray) -> UnionNode<'a>

@@ -52,7 +52,7 @@ pub struct UnionFault {
 impl From<OwnFault> for UnionFault {
     ghost use Rattle.std.specs.Prelude.{◌≡◌};
     ghost use Rattle.union_cols.specs.UnionAnswers.{found_of};
-    ghost use Rattle.union_cols.specs.promise.UnionRules.{own_of};
+    ghost use Rattle.union_cols.specs.UnionRules.{faulty_of, own_of};
 
     ghost from_gives = { λ fault given. found_of given ≡ own_of fault };
 
@@ -79,7 +79,6 @@ impl From<FaultyChild> for UnionFault {
     ghost use Rattle.std.specs.Prelude.{◌≡◌};
     ghost use Rattle.root_check.specs.Founds.{child_fault_of};
     ghost use Rattle.union_cols.specs.UnionAnswers.{found_of};
-    ghost use Rattle.union_cols.specs.promise.UnionRules.{faulty_of};
 
     ghost from_gives = { λ fault given. found_of given ≡ faulty_of (child_fault_of fault) };
 

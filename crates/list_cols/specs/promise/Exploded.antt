@@ -11,22 +11,15 @@ use Rattle.arr_export.specs.promise.ValueColumns.{ValueColumn}
 use Rattle.list_cols.specs.promise.FlatTables.{columns_from}
 use Rattle.list_cols.specs.promise.Nested.{Explode}
 
--- the type of a list's items
-abbrev pub item_kind : KindTree → DataType
-item_kind list = kind_in (child_at list 0)
-
--- the types of the columns
+-- the types of the columns: in place of the lists' that of their items
 abbrev pub exploded_kinds : ℕ → KindTree → List DataType
-exploded_kinds column typed = set (map kind_in (children_of typed)) column (item_kind (child_at typed column))
+exploded_kinds column typed = set (map kind_in (children_of typed)) column (kind_in (child_at (child_at typed column) 0))
 
 -- the blocks of columns, one for each buffer
 abbrev pub blocks_in : List ValueColumn → ℕ
 blocks_in [] = 0
 blocks_in (c ∷ columns) = blocks_of c.own.kind c.own.values + blocks_in columns
 
--- the new columns, and their blocks
-abbrev pub exploded_columns : ℕ → KindTree → ArrayTree → List ValueColumn
-exploded_columns column typed array = columns_from 0 (exploded_kinds column typed) (Explode column (rows_of typed array))
-
+-- the blocks of the new columns
 abbrev pub exploded_blocks : ℕ → KindTree → ArrayTree → ℕ
-exploded_blocks column typed array = blocks_in (exploded_columns column typed array)
+exploded_blocks column typed array = blocks_in (columns_from 0 (exploded_kinds column typed) (Explode column (rows_of typed array)))

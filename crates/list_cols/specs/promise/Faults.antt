@@ -5,7 +5,7 @@ use Rattle.data_types.specs.promise.FieldText.{form_of}
 use Rattle.data_types.specs.promise.Table.{Row}
 use Rattle.data_types.specs.declared.kind.DataType.{DataType}
 use Rattle.data_types.specs.declared.kind.DataType.TheVariants as kinds
-use Rattle.tree_model.specs.promise.TreeData.{Live, Trees, no_trees, more_trees}
+use Rattle.tree_model.specs.promise.TreeData.{Live, more_trees}
 use Rattle.tree_model.specs.promise.TreeParts.{children_of}
 use Rattle.col_build.specs.promise.Encoding.{are_within, is_wide}
 use Rattle.data_types.specs.promise.Value.{byte_total}
@@ -20,13 +20,9 @@ use Rattle.list_cols.specs.declared.fault.ListFault.TheVariants.{WrongKind, TooL
 
 -- ---- the kinds of columns
 
-abbrev pub is_flat_child : Trees DataType → Bool
-is_flat_child no_trees = false
-is_flat_child (more_trees kid kids) = is_flat_column kid
-
--- lists of such values, with offsets of 32 or 64 bits
+-- lists of values of flat types, with offsets of 32 or 64 bits
 abbrev pub is_flat_list : KindTree → Bool
-is_flat_list (Live (kinds.List wide) kids dict) = is_flat_child kids
+is_flat_list (Live (kinds.List wide) (more_trees kid kids) dict) = is_flat_column kid
 is_flat_list _ = false
 
 -- what a column must be whose lists are spread out, and what the others must be

@@ -24,12 +24,10 @@ lists_of column rows k = map (λ key. column_values k (rows_with column key rows
 
 -- ---- a column of the table, and its kinds
 
-abbrev pub kind_at : List DataType → ℕ → DataType
-kind_at types k = get_or types k kinds.Null
-
 abbrev pub nested_column : ℕ → List DataType → List Row → ℕ → ArrayTree
 nested_column column types rows k =
-    if k == column then column_tree (kind_at types k) (keys_of column rows) None else list_tree (kind_at types k) (lists_of column rows k)
+    let kind = get_or types k kinds.Null in
+    if k == column then column_tree kind (keys_of column rows) None else list_tree kind (lists_of column rows k)
 
 -- ---- the table of rows with columns of these types
 
@@ -38,9 +36,6 @@ nested_table column types rows = table_tree (length (keys_of column rows)) (each
 
 -- ---- of a chunk
 
-abbrev pub nested_array : ℕ → KindTree → ArrayTree → ArrayTree
-nested_array column typed array = nested_table column (map kind_in (children_of typed)) (rows_of typed array)
-
 -- the blocks of the new array, one for each buffer: what it costs but for its nodes, as many as twice its columns
 abbrev pub nested_blocks : ℕ → KindTree → ArrayTree → ℕ
-nested_blocks column typed array = Cost (nested_array column typed array) - 2 * length (children_of typed)
+nested_blocks column typed array = Cost (nested_table column (map kind_in (children_of typed)) (rows_of typed array)) - 2 * length (children_of typed)

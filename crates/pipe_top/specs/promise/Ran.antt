@@ -5,7 +5,7 @@ use Rattle.edge_io.specs.promise.Edge.{LosesCount, LosesWithin, Rose}
 use Rattle.run_model.specs.promise.Words.{audit_of, made_of}
 use Rattle.run_model.specs.promise.Answer.{Asks, Tree, Cause, OfPlan, OfRecords, OfTree, OfLength, Writing, cause_of, status_of}
 use Rattle.run_model.specs.promise.MemoryFaults.{has_memory_inside}
-use Rattle.run_model.specs.promise.Outcomes.{AtWriteFault, is_early, is_write_fault}
+use Rattle.run_model.specs.promise.Outcomes.{AtWriting, decides_early, is_writing}
 use Rattle.run_model.specs.promise.Diagnostics.{Told, audit_if}
 use Rattle.run_model.specs.promise.RunAnswer.{AreInput, input_limit}
 use Rattle.run_model.specs.promise.RunOutcomes.{IsRead}
@@ -52,7 +52,7 @@ pub record Ran (words : List (List ℕ)) (old new : Outside) (outcome : Outcome)
   -- The words and the texts among them are refused exactly where they are at fault, whatever the source states, which is then
   -- as before.
   pub refused_early : (fault : RunFault) → Asks words (Err fault) → (outcome.fault ≡ Some fault) ⊎ (outcome.fault ≡ Some run.NoMemory)
-  pub refused_early_only : IfSome outcome.fault (λ fault. is_early fault ≡ true → Asks words (Err fault))
+  pub refused_early_only : IfSome outcome.fault (λ fault. decides_early (cause_of fault) ≡ true → Asks words (Err fault))
   pub refused_unread : (fault : RunFault) → Asks words (Err fault) → Keeps old.left new.left
   pub refused_unfailed : (fault : RunFault) → Asks words (Err fault) → new.read_faults ≡ old.read_faults
   -- Where rows are made in place of an input, the source is as before, whatever the run comes to.
@@ -60,10 +60,10 @@ pub record Ran (words : List (List ℕ)) (old new : Outside) (outcome : Outcome)
   pub made_unfailed : IfSome (made_of words) (λ rows. new.read_faults ≡ old.read_faults)
   -- A read fails only where no rows are made and the source's faults rose, and a write where the sink's did.
   pub read_fault : outcome.fault ≡ Some run.ReadFault → (made_of words ≡ None) × Rose old.read_faults new.read_faults
-  pub write_fault : IfSome outcome.fault (λ fault. AtWriteFault fault (λ taken. Rose old.write_faults new.write_faults))
+  pub write_fault : IfSome outcome.fault (λ fault. AtWriting (cause_of fault) (λ taken. Rose old.write_faults new.write_faults))
   -- After a fault that is no failed write the sink is as before.
   pub no_memory : outcome.fault ≡ Some run.NoMemory → Keeps old.taken new.taken
-  pub unwritten : IfSome outcome.fault (λ fault. is_write_fault fault ≡ false → Keeps old.taken new.taken)
+  pub unwritten : IfSome outcome.fault (λ fault. is_writing (cause_of fault) ≡ false → Keeps old.taken new.taken)
   -- Out of memory is a fault of its own: no other fault has one inside it.
   pub memory_alone : IfSome outcome.fault (λ fault. has_memory_inside fault ≡ false)
   -- The status is a function of the fault. Whatever the run comes to, the source has lost its first bytes, at most one past the most

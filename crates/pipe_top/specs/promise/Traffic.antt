@@ -1,16 +1,13 @@
 -- The links of a run: what it shows of them, and the blocks and the nodes that it makes.
-use Rattle.std.specs.Prelude.{◌≡◌, ℕ, Bool, true, false, List, [], Option, Result, Ok, Err}
+use Rattle.std.specs.Prelude.{◌≡◌, ℕ, List, [], Option, Result, Ok, Err, if◌then◌else◌}
 use Rattle.csv_model.specs.promise.Batches.{batches_in}
 use Rattle.csv_model.specs.promise.Header.{header_of}
 use Rattle.csv_model.specs.promise.Reading.{Record, behind_header, records_of}
-use Rattle.csv_model.specs.declared.fault.HeaderFault.{HeaderFault}
 use Rattle.stage_plan.specs.promise.Entries.{entries_of}
-use Rattle.data_types.specs.promise.Table.{Column}
 use Rattle.stage_chain.specs.promise.Chains.{ShowsFirst, ShowsLinks}
 use Rattle.stage_model.specs.promise.Links.{Link, Links}
 use Rattle.stage_model.specs.promise.Traffic.{run_blocks, run_nodes}
-use Rattle.stage_model.specs.promise.Typing.{Stage, plan_of}
-use Rattle.stage_model.specs.declared.fault.PlanFault.{PlanFault}
+use Rattle.stage_model.specs.promise.Typing.{plan_of}
 use Rattle.stream_face.specs.promise.Shown.{Seen}
 use Rattle.tree_check.specs.promise.Checks.{CountsTrees}
 use Rattle.unit_pass.specs.promise.Tally.{risen}
@@ -18,27 +15,17 @@ use Rattle.run_model.specs.promise.Answer.{Asks, Request, Table, Task, Tree}
 use Rattle.run_model.specs.declared.fault.RunFault.{RunFault}
 use Rattle.run_model.specs.promise.RunAnswer.{is_too_long}
 
--- the links of stages over columns and the records behind a header, where the stages fit
-abbrev pub links_planned : Request → List Column → Result (List Stage) PlanFault → List Record → List Link
-links_planned request columns (Ok stages) records = Links columns (batches_in request.mark columns records request.batch) stages
-links_planned request columns (Err fault) records = []
+-- what is made of what was read, where it was, and else nothing
+abbrev pub or_none : {K F X : Type 0} → Result K F → (K → List X) → List X
+or_none (Ok read) made = made read
+or_none (Err fault) made = []
 
--- where the header is taken
-abbrev pub links_behind_header : Request → Result (List Column) HeaderFault → List Record → List Link
-links_behind_header request (Ok columns) records = links_planned request columns (plan_of columns request.stages) records
-links_behind_header request (Err fault) records = []
-
--- the links of a run over the records of a text
+-- the links of a run over the records of a text, where the header is taken and the stages fit its columns
 abbrev pub links_of : Request → List Record → List Link
-links_of request records = links_behind_header request (header_of (entries_of request.entries) records) (behind_header records)
-
--- the links of a request over the bytes of an input: there are none where it is too long
-abbrev pub links_within : Bool → Request → List ℕ → List Link
-links_within true request bytes = []
-links_within false request bytes = links_of request (records_of bytes)
-
-abbrev pub links_asked : Request → List ℕ → List Link
-links_asked request bytes = links_within (is_too_long bytes) request bytes
+links_of request records =
+    or_none (header_of (entries_of request.entries) records) (λ columns.
+    or_none (plan_of columns request.stages) (λ stages.
+    Links columns (batches_in request.mark columns (behind_header records) request.batch) stages))
 
 -- the counts of blocks and nodes rise by those of links
 pub record LinksTraffic (links : List Link) (old_blocks old_nodes blocks nodes : ℕ) : Type 0 where
@@ -64,9 +51,9 @@ ShowsTask Tree bytes before after = after ≡ before
 abbrev pub IsShown : List (List ℕ) → List ℕ → Option (List Seen) → Option (List Seen) → Type 0
 IsShown words bytes before after = (task : Task) × Asks words (Ok task) × ShowsTask task bytes before after
 
--- the first chunks of each link were shown, and nothing where there are no links
+-- the first chunks of each link were shown, and nothing where there are no links; there are none where the input is too long
 abbrev pub ShowsAsked : Result Task RunFault → List ℕ → Option (List Seen) → Option (List Seen) → Type 0
-ShowsAsked (Ok (Table request)) bytes before after = ShowsFirst (links_asked request bytes) before after
+ShowsAsked (Ok (Table request)) bytes before after = ShowsFirst (if is_too_long bytes then [] else links_of request (records_of bytes)) before after
 ShowsAsked (Ok Tree) bytes before after = after ≡ before
 ShowsAsked (Err fault) bytes before after = after ≡ before
 

@@ -1,6 +1,6 @@
 -- What a root must meet whose type has no validity bitmap and no dictionary ("The Arrow C Data Interface", "The ArrowArray
 -- structure"): the rules on its own numbers, and on how many parts it has.
-use Rattle.std.specs.Prelude.{ℕ, pos, negsuc, not, ◌&&◌, List, [], ◌∷◌, ◌++◌, length, Option, Some, None}
+use Rattle.std.specs.Prelude.{ℕ, pos, negsuc, not, ◌&&◌, List, [], ◌∷◌, length, Option, None, option_map}
 use Rattle.std.specs.Ordering.{int_eq}
 use Rattle.tree_model.specs.promise.TreeData.{Released, Live}
 use Rattle.tree_model.specs.promise.TreeParts.{children_of, dictionary_of}
@@ -30,22 +30,18 @@ own_fails buffers children array rules.NullCount =
     fault_if (not (int_eq nulls (pos 0)) && not (int_eq nulls (negsuc 0))) 0 nulls (pos 0)
 
 -- the order in which they are tried: first whether there is an array, then its numbers, then its parts and its nulls
-abbrev pub number_rules : List OwnRule
-number_rules = rules.NegativeLength ∷ rules.NegativeOffset ∷ []
-
-abbrev pub part_rules : List OwnRule
-part_rules = rules.BufferCount ∷ rules.ChildCount ∷ rules.Dictionary ∷ rules.NullCount ∷ []
-
 abbrev pub own_rules : List OwnRule
-own_rules = rules.Released ∷ number_rules ++ part_rules
+own_rules =
+    rules.Released ∷
+    rules.NegativeLength ∷
+    rules.NegativeOffset ∷
+    rules.BufferCount ∷
+    rules.ChildCount ∷
+    rules.Dictionary ∷
+    rules.NullCount ∷
+    []
 
-abbrev pub own_found : OwnRule → Option Numbers → Option OwnFault
-own_found rule None = None
-own_found rule (Some numbers) = Some (record { rule = rule; numbers = numbers })
-
--- the first of some rules that fails, with its numbers
-abbrev pub fault_among : List OwnRule → ℕ → ℕ → ArrayTree → Option OwnFault
-fault_among some buffers children array = first_some (λ rule. own_found rule (own_fails buffers children array rule)) some
-
+-- the first of them that fails, with its numbers
 abbrev pub own_fault : ℕ → ℕ → ArrayTree → Option OwnFault
-own_fault buffers children array = fault_among own_rules buffers children array
+own_fault buffers children array =
+    first_some (λ rule. option_map (λ numbers. record { rule = rule; numbers = numbers }) (own_fails buffers children array rule)) own_rules

@@ -44,15 +44,12 @@ pub data SchemaFound : Type 0 where
   -- the first child's kind is none of ends
   EndsType : SchemaFound
 
-abbrev pub RunsSchemaFails : SchemaTree → SchemaFound → Type 0
-RunsSchemaFails schema IsReleased = schema ≡ Released
-RunsSchemaFails schema Format = IsLive schema × ((members_of schema).format ≢ codes "+r")
-RunsSchemaFails schema (OwnPart fault) = IsRuns schema × OwnSchemaReads schema (Err fault)
-RunsSchemaFails schema (ChildCount found) = ArePlainRuns schema × (found ≡ length (children_of schema)) × (found ≢ 2)
-RunsSchemaFails schema (Child fault) = ArePlainRuns schema × (length (children_of schema) ≡ 2) × IsKidFault (children_of schema) fault
-RunsSchemaFails schema EndsType = (u : RunTree) × AreOver schema u × (¬ IsEnds u.ends)
-
 -- What a schema is: that of runs of these kinds, or one with this first fault.
 abbrev pub RunsReads : SchemaTree → Result RunTree SchemaFound → Type 0
 RunsReads schema (Ok u) = RunsOf schema u
-RunsReads schema (Err found) = RunsSchemaFails schema found
+RunsReads schema (Err IsReleased) = schema ≡ Released
+RunsReads schema (Err Format) = IsLive schema × ((members_of schema).format ≢ codes "+r")
+RunsReads schema (Err (OwnPart fault)) = IsRuns schema × OwnSchemaReads schema (Err fault)
+RunsReads schema (Err (ChildCount found)) = ArePlainRuns schema × (found ≡ length (children_of schema)) × (found ≢ 2)
+RunsReads schema (Err (Child fault)) = ArePlainRuns schema × (length (children_of schema) ≡ 2) × IsKidFault (children_of schema) fault
+RunsReads schema (Err EndsType) = (u : RunTree) × AreOver schema u × (¬ IsEnds u.ends)

@@ -25,9 +25,6 @@ IsEnds _ = ⊥
 abbrev pub run_count : ArrayTree → ℕ
 run_count array = tree_items (child_at array 0)
 
-abbrev pub value_count : ArrayTree → ℕ
-value_count array = tree_items (child_at array 1)
-
 -- the items of the first child: the ends of the runs, in order
 abbrev pub Ends : Type 0
 Ends = ℕ → Value
@@ -59,18 +56,10 @@ first_from f k (suc n) = if f k then k else first_from f (suc k) n
 abbrev pub ends_above : Ends → ℕ → ℕ → Bool
 ends_above ends place k = int_lt (pos place) (run_end ends k)
 
--- the run of a place: the first one, of this many, whose end is above the place
-abbrev pub run_at : Ends → ℕ → ℕ → ℕ
-run_at ends count place = first_from (ends_above ends place) 0 count
-
--- the run of an item of the array's window
+-- the run of an item of the array's window: the first one whose end is above the item's place
 abbrev pub run_of : RunTree → ArrayTree → ℕ → ℕ
-run_of u array i = run_at (ends_in u array) (run_count array) (first (members_of array) + i)
+run_of u array i = first_from (ends_above (ends_in u array) (first (members_of array) + i)) 0 (run_count array)
 
--- The value of item i: that of its run.
-abbrev pub run_value : RunTree → ArrayTree → ℕ → Value
-run_value u array i = value_at u.values (child_at array 1) (run_of u array i)
-
--- the values of the window's items, in order
+-- the values of the window's items, in order: each is that of its run
 abbrev pub run_values : RunTree → ArrayTree → List Value
-run_values u array = each (run_value u array) 0 (items (members_of array))
+run_values u array = each (λ i. value_at u.values (child_at array 1) (run_of u array i)) 0 (items (members_of array))

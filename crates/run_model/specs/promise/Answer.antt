@@ -14,7 +14,8 @@ use Rattle.stage_plan.specs.promise.Types.{Reads}
 use Rattle.stage_plan.specs.declared.fault.TypesFault.{TypesFault}
 use Rattle.stage_plan.specs.declared.fault.TypesFault.TheVariants as types
 use Rattle.stage_plan.specs.declared.types.TypeEntry.{TypeEntry}
-use Rattle.run_model.specs.promise.Words.{Options, mark_of, words_of}
+use Rattle.std.specs.Option.{unwrap_or}
+use Rattle.run_model.specs.promise.Words.{Options, words_of}
 use Rattle.run_model.specs.declared.words.WordsFault.{WordsFault}
 use Rattle.run_model.specs.declared.fault.RunFault.{RunFault}
 use Rattle.run_model.specs.declared.fault.RunFault.TheVariants as run
@@ -88,7 +89,7 @@ stages_from number (text ∷ texts) = stage_before number (stage_of text) (stage
 
 -- what is asked for with these stages and entries
 abbrev pub request_with : Options → List StageText → Result (List TypeEntry) RunFault → Result Request RunFault
-request_with options stages (Ok entries) = Ok (record { entries = entries; stages = stages; batch = options.batch; mark = mark_of options })
+request_with options stages (Ok entries) = Ok (record { entries = entries; stages = stages; batch = options.batch; mark = unwrap_or options.null [] })
 request_with options stages (Err fault) = Err fault
 
 -- what options with these stages ask for: a stage text is refused before the schema text
@@ -126,14 +127,10 @@ chain_stages =
     codes "totals=id,amount" ∷
     []
 
--- the options of this chain: the numbers as taken, and no mark
-abbrev pub chain_of : Options → Options
-chain_of options = record options { schema = Some chain_schema; null = None; stages = chain_stages }
-
--- the options that are meant: those of the chain where rows are made in place of an input
+-- the options that are meant: where rows are made in place of an input, those of this chain, with the numbers as taken and no mark
 abbrev pub meant_by : Option ℕ → Options → Options
 meant_by None options = options
-meant_by (Some rows) options = chain_of options
+meant_by (Some rows) options = record options { schema = Some chain_schema; null = None; stages = chain_stages }
 
 abbrev pub OptionsAsk : Result Options WordsFault → Result Task RunFault → Type 0
 OptionsAsk (Ok options) asked = TaskIs options.check (meant_by options.selftest options) asked

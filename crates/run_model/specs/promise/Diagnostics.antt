@@ -32,31 +32,21 @@ fault_text run.ReadFault = codes "read failed"
 fault_text (run.WriteFault taken) = codes "write failed after " ++ decimal taken ++ codes " bytes"
 fault_text run.NoMemory = codes "out of memory"
 
-abbrev pub line_of : List ℕ → List ℕ
-line_of text = codes "arrowpipe: " ++ text ++ codes "\n"
-
 -- the line of a fault, where there is one
 abbrev pub fault_line : Option RunFault → List ℕ
 fault_line None = []
-fault_line (Some fault) = line_of (fault_text fault)
+fault_line (Some fault) = codes "arrowpipe: " ++ fault_text fault ++ codes "\n"
 
--- the line of an audit, of which nothing is left
-abbrev pub audit_line : Audit → List ℕ
-audit_line audit = codes "audit blocks=" ++ decimal audit.blocks ++ codes " nodes=" ++ decimal audit.nodes ++ codes " left=0\n"
-
--- the line of the audit where it is wanted
+-- the line of an audit, of which nothing is left, where it is wanted
 abbrev pub audit_if : Bool → Audit → List ℕ
-audit_if wanted audit = if wanted then audit_line audit else []
+audit_if wanted audit =
+    if wanted then codes "audit blocks=" ++ decimal audit.blocks ++ codes " nodes=" ++ decimal audit.nodes ++ codes " left=0\n" else []
 
 -- ---- what came to the sink
 
--- the sink took the first bytes of a text, and then its faults rose
-abbrev pub TookFirst : Option (List ℕ) → Option (List ℕ) → ℕ → ℕ → List ℕ → Type 0
-TookFirst old new before now text = (taken : ℕ) × (taken ≤ length text) × Appends old new (take taken text) × Rose before now
-
--- the sink took a text, or its first bytes
+-- the sink took a text, or its first bytes, and then its faults rose
 abbrev pub Took : Option (List ℕ) → Option (List ℕ) → ℕ → ℕ → List ℕ → Type 0
-Took old new before now text = Appends old new text ⊎ TookFirst old new before now text
+Took old new before now text = Appends old new text ⊎ ((taken : ℕ) × (taken ≤ length text) × Appends old new (take taken text) × Rose before now)
 
 -- the line of a fault and a text of an audit were written, which may be missing without memory
 abbrev pub Told : Option (List ℕ) → Option (List ℕ) → ℕ → ℕ → Option RunFault → List ℕ → Type 0

@@ -15,35 +15,10 @@ use Rattle.tree_check.specs.declared.fault.TreeFault.TheVariants as trees
 use Rattle.run_model.specs.declared.fault.RunFault.{RunFault}
 use Rattle.run_model.specs.declared.fault.RunFault.TheVariants as run
 
-abbrev pub is_stage_memory : StageFault → Bool
-is_stage_memory stages.NoMemory = true
-is_stage_memory _ = false
-
-abbrev pub is_text_memory : TextFault → Bool
-is_text_memory texts.NoMemory = true
-is_text_memory _ = false
-
-abbrev pub is_format_memory : FormatFault → Bool
-is_format_memory format.NoMemory = true
-is_format_memory _ = false
-
-abbrev pub is_meta_memory : MetaFault → Bool
-is_meta_memory meta.NoMemory = true
-is_meta_memory _ = false
-
--- of a format or of metadata
-abbrev pub rule_has_memory : SchemaRule → Bool
-rule_has_memory (rules.Format fault) = is_format_memory fault
-rule_has_memory (rules.Meta fault) = is_meta_memory fault
-rule_has_memory _ = false
-
-abbrev pub tree_has_memory : TreeFault → Bool
-tree_has_memory (trees.Text fault) = is_text_memory fault
-tree_has_memory (trees.Schema path rule) = rule_has_memory rule
-tree_has_memory (trees.Layout fault) = false
-
 -- of a stage text or of a tree; the types of all other faults have no such value
 abbrev pub has_memory_inside : RunFault → Bool
-has_memory_inside (run.Stage number fault) = is_stage_memory fault
-has_memory_inside (run.Tree fault) = tree_has_memory fault
+has_memory_inside (run.Stage number stages.NoMemory) = true
+has_memory_inside (run.Tree (trees.Text texts.NoMemory)) = true
+has_memory_inside (run.Tree (trees.Schema path (rules.Format format.NoMemory))) = true
+has_memory_inside (run.Tree (trees.Schema path (rules.Meta meta.NoMemory))) = true
 has_memory_inside _ = false

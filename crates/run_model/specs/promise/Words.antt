@@ -24,21 +24,14 @@ text_rule name = record (new_rule name) { long = Some name }
 abbrev pub flag_rule : Text → Rule
 flag_rule name = record (text_rule name) { action = Some SetTrue }
 
--- words that are no options, as many as there are
-abbrev pub words_rule : Text → Rule
-words_rule name = record (new_rule name) { action = Some Append }
-
--- the words are those after the program's name, and there is no help flag
-abbrev pub bare_command : App
-bare_command = on_top (λ s. record s { no_binary_name = true; disable_help_flag = true }) (new_app (codes "arrowpipe"))
-
 abbrev pub with_rules : App → List Rule → App
 with_rules command [] = command
 with_rules command (rule ∷ rules) = with_rules (with_rule command rule) rules
 
+-- the words are those after the program's name, and there is no help flag; words that are no options are stages, as many as there are
 abbrev pub arrowpipe : App
 arrowpipe =
-    with_rules bare_command
+    with_rules (on_top (λ s. record s { no_binary_name = true; disable_help_flag = true }) (new_app (codes "arrowpipe")))
     (text_rule (codes "schema") ∷
     text_rule (codes "batch") ∷
     text_rule (codes "workers") ∷
@@ -47,41 +40,8 @@ arrowpipe =
     text_rule (codes "selftest") ∷
     text_rule (codes "null") ∷
     text_rule (codes "ahead") ∷
-    words_rule (codes "stage") ∷
+    record (new_rule (codes "stage")) { action = Some Append } ∷
     [])
-
--- ---- what its matches hold
-
--- the texts of the options, and the words that are no options
-pub record Given : Type 0 where
-  pub schema : Option Text
-  pub batch : Option Text
-  pub workers : Option Text
-  pub audit : Bool
-  pub check : Bool
-  pub selftest : Option Text
-  pub null : Option Text
-  pub ahead : Option Text
-  pub stages : List Text
-
-abbrev pub flag_in : Text → List Row → Bool
-flag_in id rows = option_map_or (λ text. bytes_eq text (codes "true")) (first_of id rows) false
-
-abbrev pub texts_in : Text → List Row → List Text
-texts_in id rows = unwrap_or (all_of id rows) []
-
-abbrev pub given_in : List Row → Given
-given_in rows = record {
-  schema = first_of (codes "schema") rows;
-  batch = first_of (codes "batch") rows;
-  workers = first_of (codes "workers") rows;
-  audit = flag_in (codes "audit") rows;
-  check = flag_in (codes "check") rows;
-  selftest = first_of (codes "selftest") rows;
-  null = first_of (codes "null") rows;
-  ahead = first_of (codes "ahead") rows;
-  stages = texts_in (codes "stage") rows;
-}
 
 -- ---- numbers
 
@@ -90,14 +50,12 @@ abbrev pub begins_number : Text → Bool
 begins_number [] = false
 begins_number (c ∷ cs) = is_ascii_digit c && (not (c == 48) || (length cs == 0))
 
--- decimal digits without sign or leading zero
-abbrev pub is_number : Text → Bool
-is_number text = begins_number text && all_ascii_digits text
-
--- the number, where it lies between these two
+-- the number that decimal digits without sign or leading zero spell, where it lies between these two
 abbrev pub number_between : ℕ → ℕ → Text → Option ℕ
 number_between least most text =
-    if is_number text && (nat_le least (digits_value 10 text) && nat_le (digits_value 10 text) most) then Some (digits_value 10 text) else None
+    if (begins_number text && all_ascii_digits text) && (nat_le least (digits_value 10 text) && nat_le (digits_value 10 text) most)
+    then Some (digits_value 10 text)
+    else None
 
 -- ---- what is asked for
 
@@ -120,10 +78,6 @@ pub record Options : Type 0 where
   -- the texts of the stages, in order
   pub stages : List Text
 
--- the mark for null: the text of `--null`, and the empty text without it
-abbrev pub mark_of : Options → Text
-mark_of options = unwrap_or options.null []
-
 abbrev pub default_batch : ℕ
 default_batch = 1024
 
@@ -144,89 +98,68 @@ abbrev pub number_if : ℕ → ℕ → Option Text → Option ℕ
 number_if usual most None = Some usual
 number_if usual most (Some text) = number_between 1 most text
 
--- the number of `--batch`
-abbrev pub batch_if : Option Text → Option ℕ
-batch_if text = number_if default_batch most_batch text
-
--- the number of `--workers`
-abbrev pub workers_if : Option Text → Option ℕ
-workers_if text = number_if default_workers most_workers text
-
 -- the number of an option, from 1 to the most, where its text is one; none where the option isn't given
 abbrev pub choice_if : ℕ → Option Text → Option (Option ℕ)
 choice_if most None = Some None
 choice_if most (Some text) = option_map (λ n. Some n) (number_between 1 most text)
 
--- the number of `--selftest`; without a text no rows are made
-abbrev pub rows_if : Option Text → Option (Option ℕ)
-rows_if text = choice_if most_rows text
-
--- the number of `--ahead`; without a text no thread reads ahead
-abbrev pub ahead_if : Option Text → Option (Option ℕ)
-ahead_if text = choice_if most_ahead text
-
 -- a stage or a schema is asked for
 abbrev pub asks_of_table : Options → Bool
 asks_of_table options = is_some options.schema || nat_lt 0 (length options.stages)
 
--- rows are made without a stage, without a schema and without a tree to check
-abbrev pub fits_selftest : Options → Result Options WordsFault
-fits_selftest options = if is_some options.selftest && (options.check || asks_of_table options) then Err UsedWithSelftest else Ok options
-
--- a tree is checked without a stage and without a schema, which is tried next
-abbrev pub fits_check : Options → Result Options WordsFault
-fits_check options = if options.check && asks_of_table options then Err UsedWithCheck else fits_selftest options
-
--- no more stages than may be, which is tried first
-abbrev pub few_stages : Options → Result Options WordsFault
-few_stages options = if nat_lt most_stages (length options.stages) then Err TooManyStages else fits_check options
-
--- the rules on what is beside the stages: refused options meet none
+-- The rules on what is beside the stages, in the order in which they are tried: there are no more stages than may be, a tree is checked
+-- without a stage and without a schema, and rows are made without these and without a check. Refused options meet none.
 abbrev pub ruled : Option Options → Result Options WordsFault
 ruled None = Err Refused
-ruled (Some options) = few_stages options
+ruled (Some options) =
+    if nat_lt most_stages (length options.stages) then Err TooManyStages
+    else if options.check && asks_of_table options then Err UsedWithCheck
+    else if is_some options.selftest && (options.check || asks_of_table options) then Err UsedWithSelftest
+    else Ok options
 
--- what is given, with the four numbers
-abbrev pub options_with : Given → ℕ → ℕ → Option ℕ → Option ℕ → Options
-options_with given batch workers selftest ahead = record {
-  schema = given.schema;
+-- whether a flag is given
+abbrev pub flag_in : Text → List Row → Bool
+flag_in id rows = option_map_or (λ text. bytes_eq text (codes "true")) (first_of id rows) false
+
+-- what matches ask for with the four numbers, where each is one
+abbrev pub with_numbers : List Row → Option ℕ → Option ℕ → Option (Option ℕ) → Option (Option ℕ) → Option Options
+with_numbers rows None workers selftest ahead = None
+with_numbers rows (Some batch) None selftest ahead = None
+with_numbers rows (Some batch) (Some workers) None ahead = None
+with_numbers rows (Some batch) (Some workers) (Some selftest) None = None
+with_numbers rows (Some batch) (Some workers) (Some selftest) (Some ahead) = Some (record {
+  schema = first_of (codes "schema") rows;
   batch = batch;
   workers = workers;
-  audit = given.audit;
-  check = given.check;
+  audit = flag_in (codes "audit") rows;
+  check = flag_in (codes "check") rows;
   selftest = selftest;
-  null = given.null;
+  null = first_of (codes "null") rows;
   ahead = ahead;
-  stages = given.stages;
-}
+  stages = unwrap_or (all_of (codes "stage") rows) [];
+})
 
-abbrev pub with_numbers : Given → Option ℕ → Option ℕ → Option (Option ℕ) → Option (Option ℕ) → Option Options
-with_numbers given None workers selftest ahead = None
-with_numbers given (Some batch) None selftest ahead = None
-with_numbers given (Some batch) (Some workers) None ahead = None
-with_numbers given (Some batch) (Some workers) (Some selftest) None = None
-with_numbers given (Some batch) (Some workers) (Some selftest) (Some ahead) = Some (options_with given batch workers selftest ahead)
-
--- the options, where each number is one
-abbrev pub options_if : Given → Option Options
-options_if given = with_numbers given (batch_if given.batch) (workers_if given.workers) (rows_if given.selftest) (ahead_if given.ahead)
+-- what matches ask for; without `--selftest` no rows are made, and without `--ahead` no thread reads ahead
+abbrev pub options_in : List Row → Option Options
+options_in rows =
+    with_numbers rows (number_if default_batch most_batch (first_of (codes "batch") rows))
+    (number_if default_workers most_workers (first_of (codes "workers") rows))
+    (choice_if most_rows (first_of (codes "selftest") rows))
+    (choice_if most_ahead (first_of (codes "ahead") rows))
 
 -- ---- the words
 
 -- what the matches that clap promises ask for, where it takes the words and each number is one
 unfoldable pub taken_of : List Text → Option Options
-taken_of words = if takes arrowpipe words then options_if (given_in (matches_of arrowpipe words)) else None
+taken_of words = if takes arrowpipe words then options_in (matches_of arrowpipe words) else None
 
 -- what the words mean: a number that is none is refused before stages are counted
 abbrev pub words_of : List Text → Result Options WordsFault
 words_of words = ruled (taken_of words)
 
-abbrev pub asks_audit : Option Options → Bool
-asks_audit taken = option_map_or (λ o. o.audit) taken false
-
 -- whether the audit is asked for: refused words alone can't ask for it
 abbrev pub audit_of : List Text → Bool
-audit_of words = asks_audit (taken_of words)
+audit_of words = option_map_or (λ o. o.audit) (taken_of words) false
 
 -- how many rows are made in place of an input, where words that are taken ask for that
 abbrev pub made_by : Result Options WordsFault → Option ℕ

@@ -1,7 +1,8 @@
 -- What the program for trees answers: the text of a command, or the first fault of the words, the input, its text, the schema and
 -- the array.
-use Rattle.std.specs.Prelude.{◌≡◌, ◌+◌, ◌-◌, ◌*◌, ℕ, nat_lt, Bool, true, false, List, [], ◌∷◌, length, map, string_bytes, if◌then◌else◌, codes, Option, None, Some, IfSome, Result, Ok, Err, String}
+use Rattle.std.specs.Prelude.{◌≡◌, ◌+◌, ◌-◌, ◌*◌, ℕ, nat_lt, Bool, true, false, List, [], ◌∷◌, length, map, string_bytes, if◌then◌else◌, codes, Option, None, Some, Result, Ok, Err, String}
 use Rattle.std.specs.Global.{Global}
+use Rattle.std.specs.Option.{option_and_then}
 use Rattle.std.specs.Str.{bytes_eq}
 use Rattle.unit_pass.specs.promise.Tally.{risen}
 use Rattle.data_types.specs.promise.KindTrees.{KindTree}
@@ -48,16 +49,11 @@ column_command word column =
     else if bytes_eq word (codes "nest") then Some (commands.Nest column)
     else None
 
--- where the second word may be a column's number
-abbrev pub command_of_column : List ℕ → Option ℕ → Option Command
-command_of_column word (Some column) = column_command word column
-command_of_column word None = None
-
 -- the command that the words are, if they are one: no words are that of the rows
 abbrev pub command_of : List (List ℕ) → Option Command
 command_of [] = Some commands.Rows
 command_of (word ∷ []) = command_named word
-command_of (word ∷ number ∷ []) = command_of_column word (column_number number)
+command_of (word ∷ number ∷ []) = option_and_then (column_command word) (column_number number)
 command_of (word ∷ number ∷ next ∷ more) = None
 
 abbrev pub texts_of : List (String Global) → List (List ℕ)
@@ -93,9 +89,6 @@ pub record TextAnswer (command : Command) (bytes : List ℕ) (answer : Answer) :
 abbrev pub input_limit : ℕ
 input_limit = 1_073_741_824
 
-abbrev pub is_too_long : List ℕ → Bool
-is_too_long bytes = nat_lt input_limit (length bytes)
-
 -- where it is given whether the input is too long
 abbrev pub AnswerWithin : Bool → Command → List ℕ → Answer → Type 0
 AnswerWithin true command bytes answer = answer ≡ Fault run.InputTooLong
@@ -103,14 +96,8 @@ AnswerWithin false command bytes answer = TextAnswer command bytes answer
 
 -- where there may be no command
 abbrev pub IsAnswerTo : Option Command → List ℕ → Answer → Type 0
-IsAnswerTo (Some command) bytes answer = AnswerWithin (is_too_long bytes) command bytes answer
+IsAnswerTo (Some command) bytes answer = AnswerWithin (nat_lt input_limit (length bytes)) command bytes answer
 IsAnswerTo None bytes answer = answer ≡ Fault run.Words
-
--- ---- the input
-
--- the bytes are those that the source states that it has; where it states none, any may be
-abbrev pub AreBytes : Option (List ℕ) → List ℕ → Type 0
-AreBytes told bytes = IfSome told (λ l. l ≡ bytes)
 
 -- ---- what is made
 

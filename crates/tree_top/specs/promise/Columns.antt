@@ -9,14 +9,11 @@ abbrev pub begins_number : List ℕ → Bool
 begins_number [] = false
 begins_number (c ∷ cs) = is_ascii_digit c && (not (c == 48) || (length cs == 0))
 
--- decimal digits without sign or leading zero
-abbrev pub is_number : List ℕ → Bool
-is_number text = begins_number text && all_ascii_digits text
-
 -- the greatest number of a column
 abbrev pub most_column : ℕ
 most_column = 1023
 
--- the number, where it is that of a column
+-- the number of a column that decimal digits without sign or leading zero spell
 abbrev pub column_number : List ℕ → Option ℕ
-column_number text = if is_number text && nat_le (digits_value 10 text) most_column then Some (digits_value 10 text) else None
+column_number text =
+    if (begins_number text && all_ascii_digits text) && nat_le (digits_value 10 text) most_column then Some (digits_value 10 text) else None

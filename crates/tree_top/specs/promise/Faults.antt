@@ -77,78 +77,35 @@ decides Reading = false
 decides (Writing taken) = false
 decides Memory = false
 
-abbrev pub is_decided : TreeRunFault → Bool
-is_decided fault = decides (cause_of fault)
-
 abbrev pub is_writing : Cause → Bool
 is_writing (Writing taken) = true
 is_writing _ = false
-
-abbrev pub is_write_fault : TreeRunFault → Bool
-is_write_fault fault = is_writing (cause_of fault)
 
 -- this many bytes were taken before a write failed
 abbrev pub AtWriting : Cause → (ℕ → Type 0) → Type 0
 AtWriting (Writing taken) P = P taken
 AtWriting _ P = ⊤
 
-abbrev pub AtWriteFault : TreeRunFault → (ℕ → Type 0) → Type 0
-AtWriteFault fault P = AtWriting (cause_of fault) P
-
 -- ---- out of memory inside another fault
 
-abbrev pub is_text_memory : TextFault → Bool
-is_text_memory texts.NoMemory = true
-is_text_memory _ = false
-
-abbrev pub is_format_memory : FormatFault → Bool
-is_format_memory format.NoMemory = true
-is_format_memory _ = false
-
-abbrev pub is_meta_memory : MetaFault → Bool
-is_meta_memory meta.NoMemory = true
-is_meta_memory _ = false
-
 abbrev pub rule_has_memory : SchemaRule → Bool
-rule_has_memory (rules.Format fault) = is_format_memory fault
-rule_has_memory (rules.Meta fault) = is_meta_memory fault
+rule_has_memory (rules.Format format.NoMemory) = true
+rule_has_memory (rules.Meta meta.NoMemory) = true
 rule_has_memory _ = false
-
-abbrev pub schema_has_memory : SchemaFault → Bool
-schema_has_memory (schemas.At path rule) = rule_has_memory rule
-schema_has_memory schemas.NoMemory = true
-
-abbrev pub union_has_memory : UnionSchemaFault → Bool
-union_has_memory (unions.Meta fault) = is_meta_memory fault
-union_has_memory (unions.Child child fault) = schema_has_memory fault
-union_has_memory unions.NoMemory = true
-union_has_memory _ = false
-
-abbrev pub is_tag_memory : TagFault → Bool
-is_tag_memory tags.NoMemory = true
-is_tag_memory _ = false
-
-abbrev pub runs_has_memory : RunsSchemaFault → Bool
-runs_has_memory (runs.Meta fault) = is_meta_memory fault
-runs_has_memory (runs.Child child fault) = schema_has_memory fault
-runs_has_memory runs.NoMemory = true
-runs_has_memory _ = false
-
-abbrev pub is_code_memory : CodeFault → Bool
-is_code_memory codings.NoMemory = true
-is_code_memory _ = false
-
-abbrev pub is_list_memory : ListFault → Bool
-is_list_memory lists.NoMemory = true
-is_list_memory _ = false
 
 -- the types of all other faults have no such value
 abbrev pub has_memory_inside : TreeRunFault → Bool
-has_memory_inside (run.Text fault) = is_text_memory fault
+has_memory_inside (run.Text texts.NoMemory) = true
 has_memory_inside (run.Schema path rule) = rule_has_memory rule
-has_memory_inside (run.UnionSchema fault) = union_has_memory fault
-has_memory_inside (run.Tag fault) = is_tag_memory fault
-has_memory_inside (run.RunsSchema fault) = runs_has_memory fault
-has_memory_inside (run.Code fault) = is_code_memory fault
-has_memory_inside (run.Lists fault) = is_list_memory fault
+has_memory_inside (run.UnionSchema (unions.Meta meta.NoMemory)) = true
+has_memory_inside (run.UnionSchema (unions.Child child (schemas.At path rule))) = rule_has_memory rule
+has_memory_inside (run.UnionSchema (unions.Child child schemas.NoMemory)) = true
+has_memory_inside (run.UnionSchema unions.NoMemory) = true
+has_memory_inside (run.Tag tags.NoMemory) = true
+has_memory_inside (run.RunsSchema (runs.Meta meta.NoMemory)) = true
+has_memory_inside (run.RunsSchema (runs.Child child (schemas.At path rule))) = rule_has_memory rule
+has_memory_inside (run.RunsSchema (runs.Child child schemas.NoMemory)) = true
+has_memory_inside (run.RunsSchema runs.NoMemory) = true
+has_memory_inside (run.Code codings.NoMemory) = true
+has_memory_inside (run.Lists lists.NoMemory) = true
 has_memory_inside _ = false

@@ -16,7 +16,7 @@ use Rattle.tree_model.specs.promise.TreeParts.{children_of}
 use Rattle.data_types.specs.promise.ValueTexts.{lines_text}
 use Rattle.tree_top.specs.promise.ChunkAnswer.{ChunkAnswer}
 use Rattle.tree_top.specs.promise.ForeignAnswer.{row_value}
-use Rattle.tree_top.specs.promise.TextOrFault.{Answer, Fault, Text}
+use Rattle.tree_top.specs.promise.TextOrFault.{Answer, Text, unless}
 use Rattle.tree_top.specs.declared.fault.TreeRunFault.{TreeRunFault}
 use Rattle.tree_top.specs.declared.fault.TreeRunFault.TheVariants as run
 
@@ -29,31 +29,21 @@ column_fault column count =
 
 -- ---- the rows
 
--- a line for each of the new rows, where there is no fault
-abbrev pub lines_unless : List Row → Option ListFault → Answer
-lines_unless rows None = Text (lines_text (map row_value rows))
-lines_unless rows (Some fault) = Fault (run.Lists fault)
+-- a line for each of these rows, where there are this column and no fault of the lists
+abbrev pub rows_anew : ℕ → KindTree → Option ListFault → List Row → Answer
+rows_anew column typed fault rows =
+    unless (λ wrong. wrong) (column_fault column (length (children_of typed))) (unless run.Lists fault (Text (lines_text (map row_value rows))))
 
--- what a command says of rows of these kinds, where there is the column
-abbrev pub rows_unless : (KindTree → List Row → Answer) → KindTree → ArrayTree → Option TreeRunFault → Answer
-rows_unless said typed array None = said typed (rows_of typed array)
-rows_unless said typed array (Some fault) = Fault fault
-
-abbrev pub answer_of_column : ℕ → (KindTree → List Row → Answer) → KindTree → ArrayTree → Answer
-answer_of_column column said typed array = rows_unless said typed array (column_fault column (length (children_of typed)))
-
--- ---- spread out
-
-abbrev pub exploded : ℕ → KindTree → List Row → Answer
-exploded column typed rows = lines_unless (Explode column rows) (explode_fault column typed rows)
-
+-- spread out
 abbrev pub ExplodeAnswer : ℕ → SchemaTree → ArrayTree → Answer → Type 0
-ExplodeAnswer column schema array answer = ChunkAnswer (answer_of_column column (exploded column)) schema array answer
+ExplodeAnswer column schema array answer =
+    ChunkAnswer (λ typed array.
+    let rows = rows_of typed array in
+    rows_anew column typed (explode_fault column typed rows) (Explode column rows)) schema array answer
 
--- ---- grouped
-
-abbrev pub nested : ℕ → KindTree → List Row → Answer
-nested column typed rows = lines_unless (Nest (length (children_of typed)) column rows) (nest_fault column typed rows)
-
+-- grouped
 abbrev pub NestAnswer : ℕ → SchemaTree → ArrayTree → Answer → Type 0
-NestAnswer column schema array answer = ChunkAnswer (answer_of_column column (nested column)) schema array answer
+NestAnswer column schema array answer =
+    ChunkAnswer (λ typed array.
+    let rows = rows_of typed array in
+    rows_anew column typed (nest_fault column typed rows) (Nest (length (children_of typed)) column rows)) schema array answer

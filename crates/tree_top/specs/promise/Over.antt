@@ -4,7 +4,7 @@ use Rattle.std.specs.Io.KnownBytes.{Appends, IsAtEnd}
 use Rattle.edge_io.specs.promise.Edge.{LosesCount}
 use Rattle.tree_top.specs.promise.TextOrFault.{Answer, Fault, Text}
 use Rattle.tree_top.specs.promise.Answer.{CountsCommand, IsAnswerTo, input_limit}
-use Rattle.tree_top.specs.promise.Faults.{AtWriteFault, Cause, OfLength, OfTrees, Writing, is_decided}
+use Rattle.tree_top.specs.promise.Faults.{AtWriting, Cause, OfLength, OfTrees, Writing, cause_of, decides}
 use Rattle.tree_top.specs.declared.command.Command.{Command}
 use Rattle.tree_top.specs.declared.fault.TreeRunFault.{TreeRunFault}
 use Rattle.tree_top.specs.declared.fault.TreeRunFault.TheVariants as run
@@ -31,9 +31,9 @@ pub record RanOver (command : Option Command) (bytes : List ℕ) (fault : Option
   -- success: the answer is a text, and the sink got all of it
   pub text : fault ≡ None → GotText (IsAnswerTo command bytes) taken got
   -- a fault that words and bytes decide is the answer
-  pub refused : IfSome fault (λ f. is_decided f ≡ true → IsAnswerTo command bytes (Fault f))
+  pub refused : IfSome fault (λ f. decides (cause_of f) ≡ true → IsAnswerTo command bytes (Fault f))
   -- after a failed write the answer is a text, and the sink got its first bytes
-  pub first : IfSome fault (λ f. AtWriteFault f (λ count. GotFirst (IsAnswerTo command bytes) taken got count))
+  pub first : IfSome fault (λ f. AtWriting (cause_of f) (λ count. GotFirst (IsAnswerTo command bytes) taken got count))
   -- on success as many blocks and nodes were made as the command makes
   pub counts : fault ≡ None → IfSome command (λ c. CountsCommand c bytes old_blocks old_nodes blocks nodes)
   -- where neither rose and the answer is a text, it is given, or there was no memory

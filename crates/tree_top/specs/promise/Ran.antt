@@ -2,8 +2,8 @@
 use Rattle.std.specs.Prelude.{◌≡◌, ◌↔◌, ◌+◌, ℕ, List, false, Option, None, Some, IfSome}
 use Rattle.std.specs.Io.KnownBytes.{IsAtEnd, Keeps}
 use Rattle.edge_io.specs.promise.Edge.{LosesWithin, Rose}
-use Rattle.tree_top.specs.promise.Answer.{AreBytes, command_of, input_limit}
-use Rattle.tree_top.specs.promise.Faults.{AtWriteFault, cause_of, has_memory_inside, is_write_fault, status_of}
+use Rattle.tree_top.specs.promise.Answer.{command_of, input_limit}
+use Rattle.tree_top.specs.promise.Faults.{AtWriting, cause_of, has_memory_inside, is_writing, status_of}
 use Rattle.tree_top.specs.promise.Over.{RanOver, ReadFor}
 use Rattle.tree_top.specs.promise.Diagnostics.{Took, status_line}
 use Rattle.tree_top.specs.declared.fault.TreeRunFault.TheVariants as run
@@ -24,7 +24,7 @@ pub record Ran (args : List (List ℕ)) (old new : Outside) (outcome : TreeOutco
   -- answer is a text, and all of it is in the sink. A fault of the words or of the input is exactly the answer's; after a failed
   -- write the sink has the first bytes of the text. As many blocks and nodes were made as the command makes. Where no fault
   -- rises the answer is given, or there was no memory.
-  pub over : (bytes : List ℕ) × AreBytes old.left bytes
+  pub over : (bytes : List ℕ) × IfSome old.left (λ stated. stated ≡ bytes)
       × RanOver (command_of args) bytes outcome.fault old.taken new.taken 0 0 outcome.audit.blocks outcome.audit.nodes
       (Rose old.read_faults new.read_faults) (Rose old.write_faults new.write_faults)
   -- On success the source was read to its end.
@@ -37,9 +37,9 @@ pub record Ran (args : List (List ℕ)) (old new : Outside) (outcome : TreeOutco
   pub words_unfailed : command_of args ≡ None → new.read_faults ≡ old.read_faults
   -- A read fails only where the source's faults rose, and a write where the sink's did.
   pub read_fault : outcome.fault ≡ Some run.ReadFault → Rose old.read_faults new.read_faults
-  pub write_fault : IfSome outcome.fault (λ fault. AtWriteFault fault (λ taken. Rose old.write_faults new.write_faults))
+  pub write_fault : IfSome outcome.fault (λ fault. AtWriting (cause_of fault) (λ taken. Rose old.write_faults new.write_faults))
   -- After a fault that is no failed write the sink is as before.
-  pub unwritten : IfSome outcome.fault (λ fault. is_write_fault fault ≡ false → Keeps old.taken new.taken)
+  pub unwritten : IfSome outcome.fault (λ fault. is_writing (cause_of fault) ≡ false → Keeps old.taken new.taken)
   -- Out of memory is a fault of its own: no other fault has one inside it.
   pub memory_alone : IfSome outcome.fault (λ fault. has_memory_inside fault ≡ false)
   -- The status is a function of the fault. Whatever the run comes to, the source has lost its first bytes, at most one past the most

@@ -63,12 +63,8 @@ pub record BehindId (list : List ℕ) (place : ℕ) : Type 0 where
   pub other : StartsOtherwise rest
   pub place_is : place ≡ length (ids_before ids ++ decimal id)
 
--- the first fault of a list of ids, at a place counted from the list's first byte
-abbrev pub IdsFault : List ℕ → ℕ → Type 0
-IdsFault list place = AtId list place ⊎ BehindId list place
-
 -- The first fault of a text: place 0 without a keyword, else that of the list behind it.
 abbrev pub UnionFormatFault : List ℕ → ℕ → Type 0
 UnionFormatFault text place =
     (((dense : Bool) → IsPrefix (keyword dense) text → ⊥) × (place ≡ 0))
-    ⊎ ((dense : Bool) × (list : List ℕ) × (p : ℕ) × (text ≡ keyword dense ++ list) × IdsFault list p × (place ≡ 4 + p))
+    ⊎ ((dense : Bool) × (list : List ℕ) × (p : ℕ) × (text ≡ keyword dense ++ list) × (AtId list p ⊎ BehindId list p) × (place ≡ 4 + p))

@@ -10,9 +10,6 @@ use Rattle.root_check.specs.promise.Schemas.{OwnSchemaReads, KidFault, IsKidFaul
 use Rattle.union_cols.specs.promise.UnionFormats.{UnionFormat, UnionFormatIs, UnionFormatFault}
 use Rattle.union_cols.specs.promise.Unions.{UnionTree}
 
-abbrev pub format_of : UnionTree → UnionFormat
-format_of u = record { dense = u.dense; ids = u.ids }
-
 -- a live schema whose format is a union's
 pub record IsUnion (schema : SchemaTree) (format : UnionFormat) : Type 0 where
   pub live : IsLive schema
@@ -25,7 +22,7 @@ pub record IsPlainUnion (schema : SchemaTree) (format : UnionFormat) : Type 0 wh
 
 -- The schema of a union of these kinds: as many children as ids, each in order.
 pub record UnionOf (schema : SchemaTree) (u : UnionTree) : Type 0 where
-  pub plain : IsPlainUnion schema (format_of u)
+  pub plain : IsPlainUnion schema (record { dense = u.dense; ids = u.ids })
   pub count : length (children_of schema) ≡ length u.ids
   pub kids : AllZip TypedOf (children_of schema) u.kids
 
@@ -40,16 +37,13 @@ pub data SchemaFound : Type 0 where
   -- the first child at fault, and its first fault, whose way begins at the child
   Child : KidFault → SchemaFound
 
-abbrev pub UnionSchemaFails : SchemaTree → SchemaFound → Type 0
-UnionSchemaFails schema IsReleased = schema ≡ Released
-UnionSchemaFails schema (Format place) = IsLive schema × UnionFormatFault (members_of schema).format place
-UnionSchemaFails schema (OwnPart fault) = (format : UnionFormat) × IsUnion schema format × OwnSchemaReads schema (Err fault)
-UnionSchemaFails schema (ChildCount found needed) =
-    (format : UnionFormat) × IsPlainUnion schema format × (found ≡ length (children_of schema)) × (needed ≡ length format.ids) × (found ≢ needed)
-UnionSchemaFails schema (Child fault) =
-    (format : UnionFormat) × IsPlainUnion schema format × (length (children_of schema) ≡ length format.ids) × IsKidFault (children_of schema) fault
-
 -- What a schema is: a union of these kinds, or one with this first fault.
 abbrev pub UnionReads : SchemaTree → Result UnionTree SchemaFound → Type 0
 UnionReads schema (Ok u) = UnionOf schema u
-UnionReads schema (Err found) = UnionSchemaFails schema found
+UnionReads schema (Err IsReleased) = schema ≡ Released
+UnionReads schema (Err (Format place)) = IsLive schema × UnionFormatFault (members_of schema).format place
+UnionReads schema (Err (OwnPart fault)) = (format : UnionFormat) × IsUnion schema format × OwnSchemaReads schema (Err fault)
+UnionReads schema (Err (ChildCount found needed)) =
+    (format : UnionFormat) × IsPlainUnion schema format × (found ≡ length (children_of schema)) × (needed ≡ length format.ids) × (found ≢ needed)
+UnionReads schema (Err (Child fault)) =
+    (format : UnionFormat) × IsPlainUnion schema format × (length (children_of schema) ≡ length format.ids) × IsKidFault (children_of schema) fault

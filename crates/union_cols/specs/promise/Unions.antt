@@ -40,28 +40,18 @@ or_zero None = 0
 abbrev pub child_number : List ℕ → ArrayMembers → ℕ → ℕ
 child_number ids own i = or_zero (child_of ids (id_at own i))
 
--- the number of the item in that child: the stored offset, or in a sparse union the item's own place
-abbrev pub item_number : Bool → ArrayMembers → ℕ → ℕ
-item_number dense own i = if dense then natural (start_at own i) else first own + i
-
-abbrev pub kid_at : UnionTree → ℕ → KindTree
-kid_at u k = get_or u.kids k Released
-
--- The value of item i: that of the item of its child.
+-- The value of item i: that of the item of its child, at the stored offset, or in a sparse union at the item's own place.
 abbrev pub union_value : UnionTree → ArrayTree → ℕ → Value
 union_value u array i =
     let own = members_of array in
     let k = child_number u.ids own i in
-    value_at (kid_at u k) (child_at array k) (item_number u.dense own i)
+    value_at (get_or u.kids k Released) (child_at array k) (if u.dense then natural (start_at own i) else first own + i)
 
 -- an item as it is shown: its type id, and its value
 pub record UnionItem : Type 0 where
   pub id : ℤ
   pub value : Value
 
-abbrev pub union_item : UnionTree → ArrayTree → ℕ → UnionItem
-union_item u array i = record { id = id_at (members_of array) i; value = union_value u array i }
-
 -- the items of the window, in order
 abbrev pub union_items : UnionTree → ArrayTree → List UnionItem
-union_items u array = each (union_item u array) 0 (items (members_of array))
+union_items u array = each (λ i. record { id = id_at (members_of array) i; value = union_value u array i }) 0 (items (members_of array))

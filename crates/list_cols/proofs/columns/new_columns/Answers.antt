@@ -6,7 +6,8 @@ use Rattle.layout_rules.specs.promise.Values.{rows_of}
 use Rattle.raw_array.specs.promise.Members.{ArrayTree}
 use Rattle.raw_array.specs.Members.{cost_of_all}
 use Rattle.tree_model.specs.promise.TreeData.{trees}
-use Rattle.list_cols.specs.promise.Exploded.{blocks_in, exploded_columns, exploded_kinds}
+use Rattle.list_cols.specs.promise.Exploded.{blocks_in, exploded_kinds}
+use Rattle.list_cols.specs.Exploded.{exploded_columns}
 use Rattle.list_cols.specs.promise.Nested.{Explode}
 use Rattle.list_cols.proofs.Chunks.{many-kinds}
 use Rattle.list_cols.proofs.NewColumns.{blocks-next, column-at, cost-push, many-columns, own_blocks, trees-next}

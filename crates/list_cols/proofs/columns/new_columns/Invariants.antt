@@ -5,7 +5,8 @@ use Rattle.data_types.specs.promise.TypedView.{typed_of}
 use Rattle.raw_array.specs.Members.{cost_of_all}
 use Rattle.tree_model.specs.promise.TreeData.{trees}
 use Rattle.unit_pass.specs.promise.Tally.{risen}
-use Rattle.list_cols.specs.promise.Exploded.{blocks_in, exploded_columns}
+use Rattle.list_cols.specs.promise.Exploded.{blocks_in}
+use Rattle.list_cols.specs.Exploded.{exploded_columns}
 use Rattle.list_cols.proofs.columns.new_columns.Given as goal
 
 -- the columns so far, and room for the others

@@ -4,7 +4,7 @@ use Rattle.tree_model.specs.promise.TreeData.{Released}
 use Rattle.data_types.specs.TypedView.{kids_of}
 use Rattle.data_types.specs.declared.typed.Typed.{out-Typed}
 use Rattle.list_cols.specs.promise.Faults.{first_wrong}
-use Rattle.list_cols.specs.promise.NestFaults.{nests}
+use Rattle.list_cols.specs.Faults.{nests}
 use Rattle.list_cols.proofs.Kids.{kid-is, kids-are, many-kids, step-wrong}
 use Rattle.list_cols.proofs.nest_wrong.wrong_to_nest.Goals as goal
 

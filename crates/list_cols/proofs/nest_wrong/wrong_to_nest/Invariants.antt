@@ -1,7 +1,7 @@
 use Rattle.std.proofs.Common.{◌≡◌, drop}
 use Rattle.data_types.specs.TypedView.{kids_of}
 use Rattle.list_cols.specs.promise.Faults.{first_wrong}
-use Rattle.list_cols.specs.promise.NestFaults.{nests}
+use Rattle.list_cols.specs.Faults.{nests}
 use Rattle.list_cols.proofs.nest_wrong.wrong_to_nest.Given as goal
 
 -- none so far is at fault

@@ -8,7 +8,7 @@ use Rattle.layout_rules.specs.promise.Values.{rows_of}
 use Rattle.layout_rules.specs.promise.Walk.{ChunkOk}
 use Rattle.schema_check.specs.promise.Schemas.{TypedOf}
 use Rattle.list_cols.specs.promise.Faults.{first_wrong}
-use Rattle.list_cols.specs.promise.NestFaults.{nests}
+use Rattle.list_cols.specs.Faults.{nests}
 use Rattle.list_cols.specs.NestedTables.{nested_type}
 use Rattle.list_cols.proofs.Kids.{kids-are, level-live}
 use Rattle.list_cols.proofs.NestedNodes.{nodes-all}

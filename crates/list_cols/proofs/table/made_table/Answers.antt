@@ -8,7 +8,8 @@ use Rattle.data_types.specs.promise.TypedView.{typed_of}
 use Rattle.layout_rules.specs.promise.Layout.{natural}
 use Rattle.layout_rules.specs.promise.Values.{rows_of}
 use Rattle.raw_array.specs.promise.Members.{ArrayTree}
-use Rattle.list_cols.specs.promise.Exploded.{exploded_columns, exploded_kinds}
+use Rattle.list_cols.specs.promise.Exploded.{exploded_kinds}
+use Rattle.list_cols.specs.Exploded.{exploded_columns}
 use Rattle.list_cols.specs.promise.Nested.{Explode}
 use Rattle.list_cols.proofs.Chunks.{many-kinds}
 use Rattle.list_cols.proofs.NewColumns.{are-columns, many-columns}

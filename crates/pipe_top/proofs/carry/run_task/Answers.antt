@@ -3,8 +3,7 @@ use Rattle.std.specs.Io.KnownBytes.{Appends}
 use Rattle.edge_io.specs.promise.Edge.{Rose}
 use Rattle.edge_io.specs.Edge.{taken_by}
 use Rattle.run_model.specs.promise.Answer.{Fault, cause_of}
-use Rattle.run_model.specs.promise.Outcomes.{is_early}
-use Rattle.run_model.specs.Outcomes.{asked_of, task_of}
+use Rattle.run_model.specs.Outcomes.{asked_of, is_early, task_of}
 use Rattle.run_model.specs.declared.fault.RunFault.TheVariants as run
 use Rattle.run_model.specs.promise.RunAnswer.{IsAnswerTo, input_by}
 use Rattle.pipe_top.proofs.Carried.{all-asked, at-err, at-ok, early-not_behind, early-not_reading, early-not_writing, early-read, if-some}

@@ -1,7 +1,7 @@
 use Rattle.std.proofs.Common.{◌≡◌, ◌∙◌, false, ap}
 use Rattle.std.specs.Io.KnownBytes.{Keeps}
 use Rattle.edge_io.specs.promise.Edge.{Rose}
-use Rattle.run_model.specs.promise.Outcomes.{AtWriteFault, is_write_fault}
+use Rattle.run_model.specs.Outcomes.{AtWriteFault, is_write_fault}
 use Rattle.pipe_top.proofs.Runs.{fault-read, made-keeps, memory-alone, nothing-written, of-fault, over-input, ran-over, read-failed, read-to-end}
 use Rattle.pipe_top.proofs.Runs.{refused-for, refused-only, silent-audit, told-all, unshown-check, where-refused}
 use Rattle.pipe_top.proofs.top.run.Goals as goal

@@ -3,8 +3,9 @@ use Rattle.arr_import.specs.Cols.{window_of}
 use Rattle.arr_import.specs.Window.{Window, whole}
 use Rattle.data_types.specs.promise.TypedView.{typed_of}
 use Rattle.tree_model.specs.promise.TreeParts.{child_at}
-use Rattle.run_ends.specs.promise.Runs.{run_count, value_count}
-use Rattle.run_ends.specs.promise.RunRules.{end_answers, first_answer}
+use Rattle.run_ends.specs.promise.Runs.{run_count}
+use Rattle.run_ends.specs.Runs.{value_count}
+use Rattle.run_ends.specs.RunRules.{end_answers, first_answer}
 use Rattle.run_ends.proofs.Holding.{items-shown}
 use Rattle.run_ends.proofs.check.check_ends.Goals as goal
 

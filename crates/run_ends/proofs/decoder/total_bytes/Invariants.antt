@@ -2,7 +2,7 @@ use Rattle.std.proofs.Common.{◌≡◌, ◌-◌}
 use Rattle.data_types.specs.promise.Value.{byte_total}
 use Rattle.layout_rules.specs.promise.Values.{each}
 use Rattle.run_ends.specs.RunCols.{array_in, kinds_in}
-use Rattle.run_ends.specs.promise.Runs.{run_value}
+use Rattle.run_ends.specs.Runs.{run_value}
 use Rattle.run_ends.proofs.ItemsWalked.{Bounded, Walked}
 use Rattle.run_ends.proofs.decoder.total_bytes.Given as goal
 

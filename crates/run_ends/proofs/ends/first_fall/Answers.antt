@@ -2,7 +2,7 @@ use Rattle.std.proofs.Common.{rules, ◌≡◌, ◌<◌, None, Some, sym}
 use Rattle.arr_import.specs.Window.{item_at}
 use Rattle.arr_import.specs.Cols.{window_of}
 use Rattle.layout_rules.proofs.Firsts.{first_below-none, first_below-some}
-use Rattle.run_ends.specs.promise.RunRules.{end_falls}
+use Rattle.run_ends.specs.RunRules.{end_falls}
 use Rattle.run_ends.proofs.ends.first_fall.Goals as goal
 
 pub returns-in-Some : goal.returns-in-Some

@@ -2,7 +2,7 @@ use Rattle.std.proofs.Common.{◌≡◌, None}
 use Rattle.layout_rules.specs.promise.Rules.{first_below}
 use Rattle.arr_import.specs.Window.{item_at}
 use Rattle.arr_import.specs.Cols.{window_of}
-use Rattle.run_ends.specs.promise.RunRules.{null_end}
+use Rattle.run_ends.specs.RunRules.{null_end}
 use Rattle.run_ends.proofs.ends.first_null.Given as goal
 
 abbrev pub invariant-loop-k : goal.invariant-loop-k

@@ -2,8 +2,8 @@ use Rattle.std.proofs.Common.{◌≡◌, ◌⊎◌, ◌∙◌, ℕ, List, Result
 use Rattle.std.specs.Global.{Global}
 use Rattle.stage_model.specs.declared.stage.StageText.{StageText}
 use Rattle.stage_plan.specs.declared.types.TypeEntry.{TypeEntry}
-use Rattle.run_model.specs.promise.Words.{Options, mark_of}
-use Rattle.run_model.specs.Words.{options_of}
+use Rattle.run_model.specs.promise.Words.{Options}
+use Rattle.run_model.specs.Words.{mark_of, options_of}
 use Rattle.run_model.specs.promise.Answer.{EntriesAsk, Request, StagesAsk, request_with}
 use Rattle.run_model.specs.Outcomes.{entries_asked}
 use Rattle.run_model.specs.declared.request.Request.{Request as AsksFor}

@@ -2,8 +2,7 @@ use Rattle.std.proofs.Common.{◌≡◌, ◌∙◌, ◌<◌, ap, sym, subst, ari
 use Rattle.std.proofs.Math.Seq.{take-length}
 use Rattle.std.proofs.KnownBytes.{Appends-nil, Appends-trans}
 use Rattle.std.specs.Io.KnownBytes.{Appends}
-use Rattle.run_model.specs.promise.Diagnostics.{TookFirst}
-use Rattle.run_model.specs.Diagnostics.{joined}
+use Rattle.run_model.specs.Diagnostics.{TookFirst, joined}
 use Rattle.run_model.proofs.Pieces.{first-less, first-then, pieces-around, pieces-push, says-failed}
 use Rattle.run_model.proofs.diagnostics.say.Goals as goal
 

@@ -1,6 +1,5 @@
 use Rattle.std.proofs.Common.{subst}
-use Rattle.run_model.specs.promise.Diagnostics.{line_of}
-use Rattle.run_model.specs.Diagnostics.{Says}
+use Rattle.run_model.specs.Diagnostics.{Says, line_of}
 use Rattle.run_model.proofs.diagnostics.tell_fault.Goals as goal
 
 pub returns-in-Text : goal.returns-in-Text

@@ -1,7 +1,6 @@
 use Rattle.std.proofs.Common.{subst, sym}
 use Rattle.tree_text.specs.promise.FaultTexts.{text_fault_text}
-use Rattle.run_model.specs.promise.Diagnostics.{line_of}
-use Rattle.run_model.specs.Diagnostics.{Says}
+use Rattle.run_model.specs.Diagnostics.{Says, line_of}
 use Rattle.run_model.proofs.TreeLines.{text-line}
 use Rattle.run_model.proofs.tree_line.tell_text.Goals as goal
 

@@ -1,7 +1,6 @@
 use Rattle.std.proofs.Common.{subst, sym}
 use Rattle.tree_check.specs.promise.FaultTexts.{tree_fault_text}
-use Rattle.run_model.specs.promise.Diagnostics.{line_of}
-use Rattle.run_model.specs.Diagnostics.{Says}
+use Rattle.run_model.specs.Diagnostics.{Says, line_of}
 use Rattle.run_model.proofs.tree_line.tell_tree.Goals as goal
 
 pub returns-in-Text : goal.returns-in-Text

@@ -2,9 +2,11 @@ use Rattle.std.proofs.Common.{◌≤◌, ◌∙◌, Some, length, ap, refl, subs
 use Rattle.std.specs.Io.KnownBytes.{Appends}
 use Rattle.edge_io.specs.promise.Edge.{Rose}
 use Rattle.edge_io.specs.Edge.{taken_by}
-use Rattle.tree_top.specs.promise.Answer.{AreBytes, input_limit}
+use Rattle.tree_top.specs.promise.Answer.{input_limit}
+use Rattle.tree_top.specs.Answer.{AreBytes}
 use Rattle.tree_top.specs.promise.TextOrFault.{Text}
-use Rattle.tree_top.specs.promise.Faults.{cause_of, is_write_fault}
+use Rattle.tree_top.specs.promise.Faults.{cause_of}
+use Rattle.tree_top.specs.Faults.{is_write_fault}
 use Rattle.tree_top.specs.promise.Over.{RanOver}
 use Rattle.tree_top.specs.declared.fault.TreeRunFault.TheVariants as run
 use Rattle.tree_top.proofs.Carried.{failed-at-write, failed-not_reading, failed-not_words, failed-read, read-of}

@@ -1,7 +1,7 @@
 use Rattle.std.proofs.Common.{◌≡◌, ◌+◌, ◌<◌, [], ◌∷◌, length, ap, arith, length-append}
 use Rattle.arr_import.specs.Window.{Window}
 use Rattle.run_ends.specs.RunCols.{array_in, kinds_in}
-use Rattle.run_ends.specs.promise.Runs.{run_value}
+use Rattle.run_ends.specs.Runs.{run_value}
 use Rattle.layout_rules.specs.promise.Values.{tree_items, value_at}
 use Rattle.tree_model.specs.promise.TreeParts.{child_at}
 use Rattle.value_text.specs.Lengths.{length_at, text_length}

@@ -2,7 +2,8 @@ use Rattle.std.proofs.Common.{◌≡◌, ◌∙◌, ◌+◌, ◌++◌, [], ◌�
 use Rattle.arr_import.specs.Cols.{window_of}
 use Rattle.arr_import.specs.Window.{item_at}
 use Rattle.run_ends.specs.RunCols.{array_in, kinds_in}
-use Rattle.run_ends.specs.promise.Runs.{run_of, run_value}
+use Rattle.run_ends.specs.promise.Runs.{run_of}
+use Rattle.run_ends.specs.Runs.{run_value}
 use Rattle.tree_model.specs.promise.TreeParts.{child_at}
 use Rattle.layout_rules.specs.promise.Values.{value_at}
 use Rattle.data_types.specs.promise.ValueTexts.{value_text}

@@ -2,7 +2,7 @@ use Rattle.std.proofs.Common.{◌≡◌, ◌++◌, ◌-◌}
 use Rattle.std.specs.List.{flat_map}
 use Rattle.layout_rules.specs.promise.Values.{each}
 use Rattle.run_ends.specs.RunCols.{array_in, kinds_in}
-use Rattle.run_ends.specs.promise.Runs.{run_value}
+use Rattle.run_ends.specs.Runs.{run_value}
 use Rattle.data_types.specs.promise.ValueTexts.{value_line}
 use Rattle.tree_top.proofs.flat.push_run.Given as goal
 

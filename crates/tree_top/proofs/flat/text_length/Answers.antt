@@ -2,7 +2,7 @@ use Rattle.std.proofs.Common.{◌≡◌, ◌+◌, ◌-◌, ◌*◌, ◌<◌, ◌
 use Rattle.std.specs.List.{flat_map}
 use Rattle.layout_rules.specs.promise.Values.{each, value_at}
 use Rattle.run_ends.specs.RunCols.{array_in, kinds_in}
-use Rattle.run_ends.specs.promise.Runs.{run_value}
+use Rattle.run_ends.specs.Runs.{run_value}
 use Rattle.tree_model.specs.promise.TreeParts.{child_at}
 use Rattle.data_types.specs.promise.ValueTexts.{value_line}
 use Rattle.tree_top.proofs.Running.{capped-times, reaches-end, same-lines-more}

@@ -5,7 +5,7 @@ use Rattle.data_types.specs.promise.TypedView.{typed_of}
 use Rattle.layout_rules.specs.promise.Values.{rows_of}
 use Rattle.layout_rules.specs.promise.Walk.{LayoutOk, first_fault}
 use Rattle.data_types.specs.promise.ValueTexts.{lines_text}
-use Rattle.tree_top.specs.promise.ForeignAnswer.{chunk_unless}
+use Rattle.tree_top.specs.AnswerParts.{chunk_unless}
 use Rattle.tree_top.specs.Gathered.{tables_in}
 use Rattle.tree_top.specs.Refusals.{fault_of_check}
 use Rattle.tree_top.specs.promise.TextOrFault.{Fault, Text}

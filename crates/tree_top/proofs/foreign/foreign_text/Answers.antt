@@ -1,6 +1,6 @@
 use Rattle.std.proofs.Common.{refl}
 use Rattle.data_types.specs.promise.TypedView.{typed_of}
-use Rattle.tree_top.specs.promise.ForeignAnswer.{chunk_of_kinds}
+use Rattle.tree_top.specs.AnswerParts.{chunk_of_kinds}
 use Rattle.tree_top.proofs.Coming.{kinds-answer, kinds-refused, schema-refused}
 use Rattle.tree_top.proofs.foreign.foreign_text.Goals as goal
 

@@ -1,5 +1,5 @@
 use Rattle.data_types.specs.promise.TypedView.{typed_of}
-use Rattle.tree_top.specs.promise.ListsAnswer.{exploded}
+use Rattle.tree_top.specs.AnswerParts.{exploded}
 use Rattle.tree_top.proofs.Chunks.{said-one}
 use Rattle.tree_top.proofs.NewRows.{both-made, rows-fault, rows-text}
 use Rattle.tree_top.proofs.lists.explode_text.Goals as goal

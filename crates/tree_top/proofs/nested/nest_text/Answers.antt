@@ -1,5 +1,5 @@
 use Rattle.data_types.specs.promise.TypedView.{typed_of}
-use Rattle.tree_top.specs.promise.ListsAnswer.{nested}
+use Rattle.tree_top.specs.AnswerParts.{nested}
 use Rattle.tree_top.proofs.Chunks.{said-one}
 use Rattle.tree_top.proofs.NewRows.{both-made, rows-fault, rows-text}
 use Rattle.tree_top.proofs.nested.nest_text.Goals as goal

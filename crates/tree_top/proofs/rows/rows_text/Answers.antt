@@ -1,6 +1,6 @@
 use Rattle.std.proofs.Common.{refl, sym}
 use Rattle.data_types.specs.promise.TypedView.{typed_of}
-use Rattle.tree_top.specs.promise.RowsAnswer.{rows_of_kinds}
+use Rattle.tree_top.specs.AnswerParts.{rows_of_kinds}
 use Rattle.tree_top.proofs.Coming.{array-refused, rows-come, schema-refused}
 use Rattle.tree_top.proofs.rows.rows_text.Goals as goal
 

@@ -1,6 +1,6 @@
 use Rattle.std.proofs.Common.{◌≡◌, ◌⊎◌, IfErr, IfOk, refl, subst, sym}
 use Rattle.data_types.specs.promise.TypedView.{typed_of}
-use Rattle.tree_top.specs.promise.RunsAnswer.{runs_of_array, runs_of_kinds}
+use Rattle.tree_top.specs.AnswerParts.{runs_of_array, runs_of_kinds}
 use Rattle.tree_top.specs.promise.TextOrFault.{Fault, Text}
 use Rattle.tree_top.specs.declared.fault.TreeRunFault.TheVariants as run
 use Rattle.tree_top.proofs.Coming.{kinds-answer, kinds-refused, schema-refused}

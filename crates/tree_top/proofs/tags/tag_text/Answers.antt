@@ -1,5 +1,5 @@
 use Rattle.data_types.specs.promise.TypedView.{typed_of}
-use Rattle.tree_top.specs.promise.TagAnswer.{tags_of_columns}
+use Rattle.tree_top.specs.AnswerParts.{tags_of_columns}
 use Rattle.tree_top.proofs.Chunks.{chunk-fault, chunk-text, said-one}
 use Rattle.tree_top.proofs.tags.tag_text.Goals as goal
 

@@ -3,8 +3,8 @@ use Rattle.layout_rules.specs.promise.Values.{each}
 use Rattle.union_cols.specs.UnionCols.{array_in, kinds_in}
 use Rattle.data_types.specs.NumberedTexts.{numbered_line}
 use Rattle.value_text.proofs.Parts.{appended}
-use Rattle.union_cols.specs.promise.Unions.{union_item}
-use Rattle.tree_top.specs.promise.UnionAnswer.{numbered_item}
+use Rattle.union_cols.specs.Unions.{union_item}
+use Rattle.tree_top.specs.AnswerParts.{numbered_item}
 use Rattle.tree_top.proofs.UnionLines.{item_lines, lines-more}
 use Rattle.tree_top.proofs.union.push_items.Goals as goal
 

@@ -6,11 +6,12 @@ use Rattle.data_types.specs.promise.Value.Value.{Whole}
 use Rattle.layout_rules.specs.promise.Layout.{natural}
 use Rattle.raw_array.specs.promise.Members.{members_of}
 use Rattle.union_cols.specs.UnionCols.{array_in, kinds_in}
-use Rattle.union_cols.specs.promise.Unions.{id_at, union_item, union_value}
+use Rattle.union_cols.specs.promise.Unions.{id_at, union_value}
+use Rattle.union_cols.specs.Unions.{union_item}
 use Rattle.value_text.specs.Lengths.{capped, text_length}
 use Rattle.data_types.specs.NumberedTexts.{numbered_line}
 use Rattle.data_types.specs.promise.ValueTexts.{value_text}
-use Rattle.tree_top.specs.promise.UnionAnswer.{numbered_item}
+use Rattle.tree_top.specs.AnswerParts.{numbered_item}
 use Rattle.tree_top.proofs.union_length.line_length.Goals as goal
 
 pub returns : goal.returns

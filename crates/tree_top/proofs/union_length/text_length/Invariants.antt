@@ -1,7 +1,7 @@
 use Rattle.std.proofs.Common.{◌≡◌, ◌+◌, length}
 use Rattle.layout_rules.specs.promise.Values.{each}
 use Rattle.union_cols.specs.UnionCols.{array_in, kinds_in}
-use Rattle.union_cols.specs.promise.Unions.{union_item}
+use Rattle.union_cols.specs.Unions.{union_item}
 use Rattle.value_text.specs.Lengths.{capped}
 use Rattle.tree_top.proofs.UnionLines.{item_lines}
 use Rattle.tree_top.proofs.union_length.text_length.Given as goal

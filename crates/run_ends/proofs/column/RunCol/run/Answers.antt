@@ -1,7 +1,8 @@
 use Rattle.std.proofs.Common.{ℕ, ◌≡◌, ◌+◌, ◌∙◌, ap, sym, subst, arith}
 use Rattle.tree_model.specs.promise.TreeParts.{IsLive, child_at}
 use Rattle.data_types.proofs.Levels.{typed_out}
-use Rattle.run_ends.specs.promise.Runs.{ends_in, run_at, run_count, run_of}
+use Rattle.run_ends.specs.promise.Runs.{ends_in, run_count, run_of}
+use Rattle.run_ends.specs.Runs.{run_at}
 use Rattle.run_ends.specs.RunCols.{kinds_in, array_in}
 use Rattle.run_ends.proofs.Searching.{item_holds}
 use Rattle.run_ends.proofs.column.RunCol.run.Goals as goal

@@ -1,7 +1,7 @@
 use Rattle.std.proofs.Common.{◌≡◌, ap, arith}
 use Rattle.arr_import.specs.Cols.{window_of}
 use Rattle.arr_import.specs.Window.{Window}
-use Rattle.run_ends.specs.promise.Runs.{value_count}
+use Rattle.run_ends.specs.Runs.{value_count}
 use Rattle.run_ends.specs.RunCols.{kinds_in, array_in}
 use Rattle.run_ends.proofs.Searching.{item_holds}
 use Rattle.run_ends.proofs.column.RunCol.values.Goals as goal

@@ -3,7 +3,7 @@ use Rattle.data_types.specs.promise.TypedView.{typed_of}
 use Rattle.arr_import.specs.Cols.{window_of}
 use Rattle.arr_import.specs.Window.{Window}
 use Rattle.layout_rules.specs.promise.Values.{tree_items}
-use Rattle.run_ends.specs.promise.RunCoding.{is_same}
+use Rattle.run_ends.specs.RunCoding.{is_same}
 use Rattle.run_ends.proofs.ValueRuns.{count-is, value-is}
 use Rattle.run_ends.proofs.column_runs.ColumnRuns.is_next_same.Goals as goal
 

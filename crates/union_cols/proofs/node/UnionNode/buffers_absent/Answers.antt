@@ -1,7 +1,7 @@
 use Rattle.std.proofs.Common.{rules, ◌≡◌, ◌<◌, None, Some, sym}
 use Rattle.raw_array.specs.promise.Members.{members_of}
 use Rattle.layout_rules.proofs.Firsts.{first_below-none, first_below-some}
-use Rattle.union_cols.specs.promise.UnionRules.{buffer_absent, buffer_count}
+use Rattle.union_cols.specs.UnionRules.{buffer_absent, buffer_count}
 use Rattle.union_cols.proofs.node.UnionNode.buffers_absent.Goals as goal
 
 pub returns-in-Some : goal.returns-in-Some

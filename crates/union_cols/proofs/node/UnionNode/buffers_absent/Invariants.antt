@@ -1,7 +1,7 @@
 use Rattle.std.proofs.Common.{◌≡◌, None}
 use Rattle.raw_array.specs.promise.Members.{members_of}
 use Rattle.layout_rules.specs.promise.Rules.{first_below}
-use Rattle.union_cols.specs.promise.UnionRules.{buffer_absent}
+use Rattle.union_cols.specs.UnionRules.{buffer_absent}
 use Rattle.union_cols.proofs.node.UnionNode.buffers_absent.Given as goal
 
 abbrev pub invariant-loop-k : goal.invariant-loop-k
