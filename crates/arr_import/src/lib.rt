@@ -17,7 +17,7 @@
 //! Contracts see a column as a window (`specs/Window.antt`): the kinds, the array's tree, and which items of it.
 //! `specs/promise/Values.antt` of `layout_rules` says what an item is, `specs/Shown.antt` what a reference shows, and
 //! `specs/Plain.antt` what a plain column is. Left to others: whether an array is lawful (`layout_check`), and taking in a
-//! schema and an array together (`tree_import`).
+//! schema and an array together (`tree_check`).
 #![tactic(auto)]
 
 mod access;
