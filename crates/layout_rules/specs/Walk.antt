@@ -10,6 +10,13 @@ use Rattle.layout_rules.specs.promise.Layout.{layout_of}
 use Rattle.layout_rules.specs.promise.Rules.{Node, null_items, fails}
 use Rattle.layout_rules.specs.promise.Walk.{Fault, first_some, node_fault, node_of, fault_at, visit_fault, visits}
 
+abbrev pub fault_by : Steps → Node → LayoutRule → Option Fault
+fault_by path node rule = fault_at path rule (fails rule node)
+
+-- the first fault of a walk that begins at these steps
+abbrev pub fault_from : KindTree → Steps → ArrayTree → Option Fault
+fault_from typed path array = first_some visit_fault (visits typed path array)
+
 -- ---- the first fault of a node's own parts
 
 abbrev pub own_fault : KindTree → Steps → ArrayTree → Option Fault
@@ -35,10 +42,3 @@ rules_fault some path node = first_some (fault_by path node) some
 abbrev pub nulls_in : KindTree → ArrayTree → ℕ
 nulls_in (Live kind kids dict) (Live own children dictionary) = null_items (layout_of kind) own
 nulls_in _ _ = 0
-
-abbrev pub fault_by : Steps → Node → LayoutRule → Option Fault
-fault_by path node rule = fault_at path rule (fails rule node)
-
--- the first fault of a walk that begins at these steps
-abbrev pub fault_from : KindTree → Steps → ArrayTree → Option Fault
-fault_from typed path array = first_some visit_fault (visits typed path array)

@@ -15,6 +15,10 @@ released_schema = codes "S !"
 abbrev pub released_array : List ℕ
 released_array = codes "A !"
 
+-- the lines of a live node's own
+abbrev pub schema_node_lines : SchemaMembers → ℕ → ℕ → List (List ℕ)
+schema_node_lines own children dictionaries = schema_line own children dictionaries ∷ []
+
 -- the lines of a schema tree, and those of an array tree
 abbrev pub schema_lines : SchemaTree → List (List ℕ)
 schema_lines t = lines_of released_schema schema_node_lines t
@@ -27,7 +31,3 @@ SchemaFits level t = TreeFits SchemaNodeFits level t
 
 abbrev pub ArrayFits : ℕ → ArrayTree → Type 0
 ArrayFits level t = TreeFits ArrayNodeFits level t
-
--- the lines of a live node's own
-abbrev pub schema_node_lines : SchemaMembers → ℕ → ℕ → List (List ℕ)
-schema_node_lines own children dictionaries = schema_line own children dictionaries ∷ []
