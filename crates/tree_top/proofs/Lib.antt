@@ -11,6 +11,8 @@ pub mod UnionLines
 pub mod Chunks
 pub mod Tagging
 pub mod NewLines
+pub mod TagLines
+pub mod NestLines
 pub mod NewRows
 pub mod ColumnNumbers
 pub mod Running

@@ -59,7 +59,7 @@ abbrev pub texts : List Value → ℕ
 texts [] = 0
 texts (v ∷ vs) = length (value_text v) + texts vs
 
-texts-some : (vs : List Value) → length vs ≤ texts vs
+pub texts-some : (vs : List Value) → length vs ≤ texts vs
 texts-some [] = omega arith
 texts-some (v ∷ vs) = omega (arith, value-some v, texts-some vs)
 
@@ -76,13 +76,13 @@ some-parts : (vs : List Value) → 0 < length vs → length (parts vs) + 1 ≡ t
 some-parts [] some = absurd (omega (arith, some))
 some-parts (v ∷ vs) some = omega (arith, parts-long v vs)
 
-row-long : (row : Row) → 0 < length row → length (value_text (row_value row)) ≡ texts row + length row + 1
+pub row-long : (row : Row) → 0 < length row → length (value_text (row_value row)) ≡ texts row + length row + 1
 row-long row some = omega (arith, length-append (parts row) (125 ∷ []), some-parts row some)
 
-list-long : (items : List Value) → 0 < length items → length (value_text (Items (values items))) ≡ texts items + length items + 1
+pub list-long : (items : List Value) → 0 < length items → length (value_text (Items (values items))) ≡ texts items + length items + 1
 list-long items some = omega (arith, length-append (parts items) (93 ∷ []), some-parts items some)
 
-line-long : (row : Row) → length (value_line (row_value row)) ≡ length (value_text (row_value row)) + 1
+pub line-long : (row : Row) → length (value_line (row_value row)) ≡ length (value_text (row_value row)) + 1
 line-long row = length-append (value_text (row_value row)) (10 ∷ [])
 
 -- ---- another item in the place of one

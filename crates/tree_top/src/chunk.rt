@@ -3,7 +3,7 @@ ghost use Rattle.std.specs.Prelude.{◌≡◌, ◌⊎◌, None, IfOk, IfErr, map
 ghost use Rattle.data_types.specs.promise.KindTrees.{KindTree};
 ghost use Rattle.data_types.specs.KindTrees.{TypedOk};
 ghost use Rattle.data_types.specs.promise.TypedView.{typed_of};
-ghost use Rattle.layout_rules.specs.promise.Values.{rows_of};
+ghost use Rattle.layout_rules.specs.promise.Values.{rows_of, tree_items};
 ghost use Rattle.layout_rules.specs.promise.Walk.{ChunkOk, first_chunk_fault};
 ghost use Rattle.schema_check.specs.promise.Schemas.{TypedOf};
 ghost use Rattle.data_types.specs.promise.ValueTexts.{lines_text};
@@ -15,7 +15,7 @@ ghost use Rattle.tree_top.specs.promise.TextOrFault.{Fault};
 use crate::fault::TreeRunFault;
 use data_types::Typed;
 use layout_check::check_chunk;
-use layout_rules::chunks_are_tables;
+use layout_rules::{chunks_are_tables, lawful_root};
 use raw_array::RawArray;
 use raw_schema::RawSchema;
 use schema_check::{SchemaFault, check_schema, one_schema_answer};
@@ -45,6 +45,15 @@ pub(crate) fn chunk_kinds(
         Ok(()) => Ok(typed),
         Err(fault) => Err(TreeRunFault::from(CheckFault::from(fault))),
     }
+}
+
+/// How many rows a chunk has.
+pub(crate) fn row_count(typed: &Typed, array: &RawArray) -> u64
+    requires { ChunkOk (typed_of typed.now) array.now }
+    ensures { result ≡ tree_items array.now }
+{
+    lawful_root(typed, array);
+    array.length() as u64
 }
 
 /// The lines of a chunk: those of its rows. The kinds are read of its schema.

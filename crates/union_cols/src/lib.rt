@@ -44,4 +44,5 @@ pub use rule::{UnionFault, UnionRule};
 pub use schema_fault::UnionSchemaFault;
 pub use some_format::some_union_format;
 pub use tag_fault::TagFault;
-pub use tagged::tag;
+pub use tag_ids::first_valued;
+pub use tagged::{columns_fault, tag};

@@ -1,5 +1,5 @@
 //! Which column each item of a union comes from, and where it is there.
-ghost use Rattle.std.specs.Prelude.{◌≡◌, ◌<◌, ◌≤◌, ◌^◌, ◌∷◌, [], ℕ, true, IfOk, IsTrue, if◌then◌else◌, get_or, length, map};
+ghost use Rattle.std.specs.Prelude.{◌≡◌, ◌<◌, ◌≤◌, ◌^◌, ◌∷◌, [], ℕ, true, IfOk, IfSome, IsTrue, if◌then◌else◌, get_or, length, map};
 ghost use Rattle.data_types.specs.promise.Value.{Null, is_null};
 ghost use Rattle.tree_model.specs.promise.TreeParts.{children_of};
 ghost use Rattle.data_types.specs.KindTrees.{TypedOk};
@@ -44,6 +44,22 @@ fn is_null_column(typed: &Typed, array: &RawArray, k: usize) -> bool
     lawful_root(typed, array);
     let _items = Col::of(typed, array).child(k);
     has_no_values(&typed.kids[k], array.child(k))
+}
+
+/// The number of the first column of a chunk that has values. All before it are null in each row.
+pub fn first_valued(typed: &Typed, array: &RawArray) -> Option<usize>
+    requires types { TypedOk (typed_of typed.now) }
+    requires chunk { ChunkOk (typed_of typed.now) array.now }
+    ensures inside { IfSome result (λ k. k < length (children_of (typed_of typed.now))) }
+    ensures nulls { IfSome result (λ k. (j : ℕ) → j < k → IsNullColumn (typed_of typed.now) array.now j) }
+{
+    kinds_of_typed(typed);
+    for k in 0..typed.kids.len() {
+        if !is_null_column(typed, array, k) {
+            return Some(k);
+        }
+    }
+    None
 }
 
 /// The numbers of the columns of a chunk that have values, in their order.

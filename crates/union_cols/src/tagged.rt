@@ -85,7 +85,7 @@ pub fn tag(
 }
 
 /// Why the columns of a struct make no union.
-fn columns_fault(array: &RawArray, dense: bool) -> Option<TagFault>
+pub fn columns_fault(array: &RawArray, dense: bool) -> Option<TagFault>
     requires live { IsLive array.now }
     requires length { pos 0 ≤ℤ (members_of array.now).length }
     ensures { result ≡ tag_fault dense (length (children_of array.now)) (tree_items array.now) }

@@ -1,4 +1,5 @@
-use Rattle.std.proofs.Common.{length, sym}
+use Rattle.std.proofs.Common.{◌∙◌, length, sym}
+use Rattle.std.proofs.lemmas.Bool.{false≢true}
 use Rattle.data_types.specs.promise.TypedView.{typed_of}
 use Rattle.layout_rules.specs.promise.Values.{tree_items}
 use Rattle.tree_model.specs.promise.TreeParts.{children_of}
@@ -29,3 +30,9 @@ returns-in-Err-clause-fault c =
     let array = c.args.array in
     columns-refused typed array (tag_fault c.args.dense (length (children_of array)) (tree_items array)) c.in-Err.fault c.from.result c.from.ensures
     c.in-Err.ensures.fault
+
+pub returns-in-Ok-clause-many : goal.returns-in-Ok-clause-many
+returns-in-Ok-clause-many c = λ none long. absurd (false≢true (sym c.if-is_tagged_too_long.false ∙ c.is_tagged_too_long.ensures.many none long))
+
+pub returns-in-Err-clause-many : goal.returns-in-Err-clause-many
+returns-in-Err-clause-many c = λ none long. absurd (false≢true (sym c.if-is_tagged_too_long.false ∙ c.is_tagged_too_long.ensures.many none long))

@@ -7,7 +7,7 @@ use Rattle.data_types.proofs.Levels.{get_or-typed}
 use Rattle.data_types.specs.promise.KindTrees.{KindTree}
 use Rattle.data_types.specs.promise.TypedView.{typed_of}
 use Rattle.data_types.specs.promise.Value.{Null, is_null}
-use Rattle.data_types.specs.declared.typed.Typed.{Typed, out-Typed}
+use Rattle.data_types.specs.declared.typed.Typed.{out-Typed}
 use Rattle.layout_rules.specs.promise.Layout.{first}
 use Rattle.layout_rules.specs.promise.Values.{row_items, value_at}
 use Rattle.layout_rules.specs.promise.Walk.{LayoutOk}
