@@ -29,7 +29,7 @@ use Rattle.union_cols.specs.promise.UnionSchemas.{SchemaFound}
 use Rattle.union_cols.specs.promise.Unions.{UnionItem, UnionTree, union_items}
 use Rattle.tree_top.specs.promise.ForeignAnswer.{row_value}
 use Rattle.tree_top.specs.promise.ListsAnswer.{column_fault}
-use Rattle.tree_top.specs.promise.Refusals.{by_array, by_schema, union_fault_told, union_schema_fault}
+use Rattle.tree_top.specs.promise.Refusals.{layout_told, schema_told, union_fault_told, union_schema_fault}
 use Rattle.tree_top.specs.promise.RunRefusals.{runs_fault_told, runs_schema_fault}
 use Rattle.tree_top.specs.promise.RunsAnswer.{runs_text}
 use Rattle.tree_top.specs.promise.TextOrFault.{Answer, Text, by, unless}
@@ -40,10 +40,10 @@ use Rattle.tree_top.specs.declared.fault.TreeRunFault.TheVariants as run
 -- ---- arrays of any kind
 
 abbrev pub rows_unless : KindTree → ArrayTree → Option ArrayFault → Answer
-rows_unless typed array found = unless by_array found (Text (lines_text (values_of typed array)))
+rows_unless typed array found = unless layout_told found (Text (lines_text (values_of typed array)))
 
 abbrev pub rows_of_kinds : Result KindTree FirstFault → ArrayTree → Answer
-rows_of_kinds read array = by by_schema read (λ typed. rows_unless typed array (first_fault typed array))
+rows_of_kinds read array = by schema_told read (λ typed. rows_unless typed array (first_fault typed array))
 
 -- ---- chunks
 
@@ -52,16 +52,16 @@ abbrev pub ChunkCommand : Type 0
 ChunkCommand = KindTree → ArrayTree → Answer
 
 abbrev pub answer_of_chunk : ChunkCommand → KindTree → ArrayTree → Option ArrayFault → Answer
-answer_of_chunk said typed array found = unless by_array found (said typed array)
+answer_of_chunk said typed array found = unless layout_told found (said typed array)
 
 abbrev pub answer_of_kinds : ChunkCommand → Result KindTree FirstFault → ArrayTree → Answer
-answer_of_kinds said read array = by by_schema read (λ typed. answer_of_chunk said typed array (first_chunk_fault typed array))
+answer_of_kinds said read array = by schema_told read (λ typed. answer_of_chunk said typed array (first_chunk_fault typed array))
 
 abbrev pub chunk_unless : KindTree → ArrayTree → Option ArrayFault → Answer
-chunk_unless typed array found = unless by_array found (Text (lines_text (values_of typed array)))
+chunk_unless typed array found = unless layout_told found (Text (lines_text (values_of typed array)))
 
 abbrev pub chunk_of_kinds : Result KindTree FirstFault → ArrayTree → Answer
-chunk_of_kinds read array = by by_schema read (λ typed. chunk_unless typed array (first_chunk_fault typed array))
+chunk_of_kinds read array = by schema_told read (λ typed. chunk_unless typed array (first_chunk_fault typed array))
 
 -- ---- tagged columns
 
@@ -111,10 +111,10 @@ abbrev pub runs_of_column : KindTree → ArrayTree → Answer
 runs_of_column typed array = runs_unless typed array (code_fault typed (tree_items array))
 
 abbrev pub runs_of_array : KindTree → ArrayTree → Option ArrayFault → Answer
-runs_of_array typed array found = unless by_array found (runs_of_column typed array)
+runs_of_array typed array found = unless layout_told found (runs_of_column typed array)
 
 abbrev pub runs_of_kinds : Result KindTree FirstFault → ArrayTree → Answer
-runs_of_kinds read array = by by_schema read (λ typed. runs_of_array typed array (first_fault typed array))
+runs_of_kinds read array = by schema_told read (λ typed. runs_of_array typed array (first_fault typed array))
 
 -- ---- run-end encoded arrays
 

@@ -34,12 +34,12 @@ array_told fault = record {
 }
 
 -- the fault of a run by the first one of a schema
-abbrev pub by_schema : FirstFault → TreeRunFault
-by_schema first = run.Schema (path_of first.path) first.rule
+abbrev pub schema_told : FirstFault → TreeRunFault
+schema_told first = run.Schema (path_of first.path) first.rule
 
 -- and by the first one of an array
-abbrev pub by_array : ArrayFault → TreeRunFault
-by_array fault = run.Layout (array_told fault)
+abbrev pub layout_told : ArrayFault → TreeRunFault
+layout_told fault = run.Layout (array_told fault)
 
 -- ---- a union's schema: the fault that tells what was found, and that of the check
 

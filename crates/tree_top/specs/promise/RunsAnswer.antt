@@ -12,7 +12,7 @@ use Rattle.run_ends.specs.promise.CodeFaults.{code_fault}
 use Rattle.run_ends.specs.promise.RunCoding.{Run, runs_from}
 use Rattle.schema_check.specs.promise.SchemaAnswers.{FirstFault, SchemaReads}
 use Rattle.data_types.specs.promise.NumberedTexts.{numbered_text}
-use Rattle.tree_top.specs.promise.Refusals.{by_array, by_schema}
+use Rattle.tree_top.specs.promise.Refusals.{layout_told, schema_told}
 use Rattle.tree_top.specs.promise.TextOrFault.{Answer, Text, by, unless}
 use Rattle.tree_top.specs.declared.fault.TreeRunFault.TheVariants as run
 
@@ -23,5 +23,5 @@ runs_text values = numbered_text (map (λ (run : Run). (run.stop, run.value)) (r
 -- the schema is read first, then no rule of arrays may fail at any node, and then the column is flat and ends of 32 bits name its items
 abbrev pub RunsAnswer : SchemaTree → ArrayTree → Answer → Type 0
 RunsAnswer schema array answer = (read : Result KindTree FirstFault) × SchemaReads schema read
-    × (answer ≡ by by_schema read (λ typed. unless by_array (first_fault typed array)
+    × (answer ≡ by schema_told read (λ typed. unless layout_told (first_fault typed array)
     (unless run.Code (code_fault typed (tree_items array)) (Text (runs_text (values_of typed array))))))
