@@ -174,7 +174,9 @@ impl<'a> Column<'a> {
     }
 
     /// How many distinct values these many items can have, nulls aside.
-    pub(crate) fn most_values(&self, count: u64) -> u32 {
+    pub(crate) fn most_values(&self, count: u64) -> u32
+        ensures few { result ≤ count }
+    {
         let kinds = match storage_of(&self.typed.kind) {
             Storage::Truths => 2,
             Storage::Wholes { bits: 8, .. } | Storage::Sized { size: 1 } => 1 << 8,
