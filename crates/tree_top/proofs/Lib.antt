@@ -16,4 +16,4 @@ pub mod NestLines
 pub mod NewRows
 pub mod ColumnNumbers
 pub mod Running
-mod Runs
+mod RunFacts

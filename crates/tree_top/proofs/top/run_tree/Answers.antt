@@ -1,6 +1,6 @@
 use Rattle.std.proofs.Common.{◌∙◌, ap, sym}
 use Rattle.tree_top.specs.declared.fault.TreeRunFault.TheVariants as run
-use Rattle.tree_top.proofs.Runs.{carried-err, fault-some, if-some, memory-alone, on-ok, ran-over}
+use Rattle.tree_top.proofs.RunFacts.{carried-err, fault-some, if-some, memory-alone, on-ok, ran-over}
 use Rattle.tree_top.proofs.top.run_tree.Goals as goal
 
 pub returns : goal.returns
