@@ -79,6 +79,7 @@ impl From<FaultyChild> for UnionFault {
     ghost use Rattle.std.specs.Prelude.{◌≡◌};
     ghost use Rattle.root_check.specs.Founds.{child_fault_of};
     ghost use Rattle.union_cols.specs.UnionAnswers.{found_of};
+    ghost use Rattle.union_cols.specs.UnionRules.{faulty_of};
 
     ghost from_gives = { λ fault given. found_of given ≡ faulty_of (child_fault_of fault) };
 

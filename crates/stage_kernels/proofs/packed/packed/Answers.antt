@@ -1,12 +1,12 @@
-use Rattle.std.proofs.Common.{arith, ◌≡◌, ◌≤◌, ◌≤ℤ◌, ◌∙◌, All, IfOk, length, map, pos, get_or, ap, sym, subst, w64, to_z, of_z}
+use Rattle.std.proofs.Common.{arith, ◌≡◌, ◌<◌, ◌≤◌, ◌≤ℤ◌, ◌∙◌, All, IfOk, length, map, pos, get_or, ap, sym, subst, w64, to_z, of_z}
 use Rattle.std.proofs.lemmas.Int.{ints}
-use Rattle.tree_model.specs.promise.TreeParts.{IsLive}
+use Rattle.tree_model.specs.promise.TreeParts.{IsLive, children_of}
 use Rattle.tree_model.specs.promise.TreeData.{trees}
 use Rattle.tree_model.specs.Tree.{depth_of_all}
 use Rattle.raw_array.specs.promise.Members.{ArrayTree, Cost, members_of}
 use Rattle.data_types.specs.promise.ColumnKinds.{type_of_columns}
 use Rattle.layout_rules.specs.promise.Layout.{natural}
-use Rattle.arr_move.specs.TreeActs.{FitParentWindow}
+use Rattle.arr_move.specs.TreeActs.{FitParentWindow, InRange}
 use Rattle.arr_export.specs.ArrayTrees.{IsColumn}
 use Rattle.stages.proofs.CutColumns.{natural-is}
 use Rattle.stage_kernels.specs.Packs.{LeftOf, column_in}
@@ -33,6 +33,23 @@ move_columns-requires-clause-length c =
 
 pub move_columns-requires-clause-distinct : goal.move_columns-requires-clause-distinct
 move_columns-requires-clause-distinct c = distinct-front c.args.rest.now c.args.picks.now c.requires.distinct
+
+pub move_columns-requires-clause-in_range : goal.move_columns-requires-clause-in_range
+move_columns-requires-clause-in_range c =
+    let range = c.columns_of_a_table.ensures.select_range c.requires.chunk.0 c.args.chunk c.args.rest.now c.requires.chunk.1 c.requires.chunk.2 in
+    subst (λ t. InRange t c.args.rest.now) (sym c.begin-moved.ensures) range
+
+pub move_columns-requires-clause-fit : goal.move_columns-requires-clause-fit
+move_columns-requires-clause-fit c =
+    let fit = c.columns_of_a_table.ensures.select_fits c.requires.chunk.0 c.args.chunk c.args.rest.now c.requires.chunk.1 c.requires.chunk.2 in
+    subst (λ t. FitParentWindow t c.args.rest.now) (sym c.begin-moved.ensures) fit
+
+pub move_columns-requires-2-clause-in_range : goal.move_columns-requires-2-clause-in_range
+move_columns-requires-2-clause-in_range c =
+    let picks = c.args.picks.now in
+    let range = c.columns_of_a_table.ensures.select_range c.requires.chunk.0 c.args.chunk picks c.requires.chunk.1 c.requires.chunk.3 in
+    let same = c.move_columns.ensures.left.places ∙ ap (λ t. length (children_of t)) c.begin-moved.ensures in
+    λ k inside. subst (λ n. get_or picks k 0 < n) (sym same) (range k inside)
 
 pub move_columns-requires-2-clause-offset : goal.move_columns-requires-2-clause-offset
 move_columns-requires-2-clause-offset c =
