@@ -2,14 +2,14 @@
 //!
 //! A module is of one chapter. A function of it does nothing: each clause of its contract is one vector, and the check computes the
 //! definition on it. An answer comes from a standard's own examples, which the clause or the function names, or was worked out by hand
-//! from the standard or the chapter; none is what the code gave. So a definition that says something else than it should is refused
-//! here, where its contracts would still hold.
+//! from the standard or the chapter. So a definition that says something else than it should is refused here, where its contracts
+//! would still hold.
 //!
 //! Nothing depends on this crate. What the code makes of such texts is shown by the crates of tests and of cases.
 #![tactic(auto)]
 
 mod answers;
-mod csv;
+mod csv_text;
 mod formats;
 mod inside;
 mod links;
@@ -25,7 +25,7 @@ mod values;
 mod words;
 
 pub use answers::text_answers;
-pub use csv::{csv_texts, headers, made_texts, rfc_4180};
+pub use csv_text::{csv_texts, headers, made_texts, rfc_4180};
 pub use formats::{format_texts, metadata};
 pub use inside::{groups, made_arrays, picked_columns, windows};
 pub use links::{batches, link_chunks};

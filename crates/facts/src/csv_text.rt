@@ -51,7 +51,7 @@ pub fn made_texts()
     ensures tenth { made_row 10 ≡ codes "10,item0,10.25,false\n" }
 {}
 
-/// The records that are written out in RFC 4180, section 2, by its rules 1, 2, 4, 5, 6 and 7.
+/// Records by the rules of RFC 4180, section 2.
 pub fn rfc_4180()
     ensures lines { records_of (codes "aaa,bbb,ccc\r\nzzz,yyy,xxx\r\n") ≡ (codes "aaa" ∷ codes "bbb" ∷ codes "ccc" ∷ []) ∷ (codes "zzz" ∷ codes "yyy" ∷ codes "xxx" ∷ []) ∷ [] }
     ensures no_last_end { records_of (codes "aaa,bbb,ccc\r\nzzz,yyy,xxx") ≡ (codes "aaa" ∷ codes "bbb" ∷ codes "ccc" ∷ []) ∷ (codes "zzz" ∷ codes "yyy" ∷ codes "xxx" ∷ []) ∷ [] }

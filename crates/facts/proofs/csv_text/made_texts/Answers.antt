@@ -1,6 +1,6 @@
 use Rattle.std.proofs.Common.{refl}
 use Rattle.std.specs.Fmt.{digits}
-use Rattle.facts.proofs.csv.made_texts.Goals as goal
+use Rattle.facts.proofs.csv_text.made_texts.Goals as goal
 
 pub returns : goal.returns
 unfolding digits

@@ -2,7 +2,7 @@ use Rattle.std.proofs.Common.{refl}
 use Rattle.std.specs.Str.{chars, is_utf8}
 use lib.Utf8.{encode}
 use Rattle.csv.proofs.OnLiterals.{csv_on_literals}
-use Rattle.facts.proofs.csv.headers.Goals as goal
+use Rattle.facts.proofs.csv_text.headers.Goals as goal
 
 pub returns : goal.returns
 unfolding csv_on_literals is_utf8 chars encode

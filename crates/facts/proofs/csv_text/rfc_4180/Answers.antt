@@ -1,7 +1,7 @@
 use Rattle.std.proofs.Common.{refl}
 use Rattle.csv.specs.Writing.{escaped, fields_text, is_blank}
 use Rattle.csv.proofs.OnLiterals.{csv_on_literals}
-use Rattle.facts.proofs.csv.rfc_4180.Goals as goal
+use Rattle.facts.proofs.csv_text.rfc_4180.Goals as goal
 
 pub returns : goal.returns
 unfolding csv_on_literals escaped fields_text is_blank
