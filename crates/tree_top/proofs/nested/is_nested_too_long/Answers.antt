@@ -1,4 +1,5 @@
 use Rattle.std.proofs.Common.{◌≡◌, ◌∙◌, ◌+◌, ◌*◌, ◌-◌, ◌≤◌, All, true, None, length, get_or, ap, arith, mul-le-mul, subst, sym}
+use Rattle.std.proofs.lemmas.Bool.Decides.{nat_tests}
 use Rattle.arr_export.proofs.Each.{length-each, value-there}
 use Rattle.arr_import.proofs.Reading.{children-count}
 use Rattle.data_types.specs.promise.Groups.{same}
@@ -21,8 +22,8 @@ use Rattle.tree_top.specs.AnswerParts.{lines_unless}
 use Rattle.tree_top.proofs.NestLines.{IsSelf, flat-self, nest-lines, not-too-long}
 use Rattle.tree_top.proofs.nested.is_nested_too_long.Goals as goal
 
-pub overflow_mul-rows : goal.overflow_mul-rows
-overflow_mul-rows c =
+pub overflow_mul-result : goal.overflow_mul-result
+overflow_mul-result c =
     let count = children-count c.args.typed.now c.kinds_of_typed.ensures in
     let wide : 2 * (c.len.result - 1) ≤ 2046 = omega (arith, count, c.len.ensures, (out-Typed c.args.typed.now).kids.ok, c.requires.few) in
     let many = mul-le-mul c.if-rows-gt-MOST_ITEMS.false wide in
@@ -40,7 +41,7 @@ returns-clause-long c = λ long flat column inside.
     let kids : c.len.result ≡ width =
     omega (arith, children-count c.args.typed.now c.kinds_of_typed.ensures, c.len.ensures, (out-Typed c.args.typed.now).kids.ok) in
     let self : All (IsSelf column) rows = λ i d lt.
-    let small = omega (arith, many, lt) in
+    let small : i < tree_items array = omega (arith, many, lt) in
     let here : get_or rows i d ≡ row_items typed array i = value-there (row_items typed array) 0 (tree_items array) i d small in
     let value : value_at (child_at typed column) (child_at array column) (first (members_of array) + i) ≡ get_or (get_or rows i d) column Null =
     sym (ap (λ (row : Row). get_or row column Null) here ∙ row-item column typed array is inside column i inside) in
@@ -48,8 +49,16 @@ returns-clause-long c = λ long flat column inside.
     (flat-self (child_at typed column) (child_at array column) (first (members_of array) + i) (none-wrong nests 0 (children_of typed) flat column inside)) in
     let none : None ≡ nest_fault column typed rows =
     sym ((λ j. fault_of (flat j) (is_nest_too_long width column rows))
-    ∙ ap (fault_of None) (not-too-long column width inside rows (omega (arith, c.row_count.ensures, many, c.if-rows-gt-MOST_ITEMS.false)))) in
-    let same_bytes : c.row_count.result * (2 * (c.len.result - 1)) ≡ length rows * (2 * (width - 1)) =
-    (λ j. c.row_count.ensures j * (2 * (kids j - 1))) ∙ ap (λ n. n * (2 * (width - 1))) (sym many) in
+    ∙ ap (fault_of None) (not-too-long column width inside rows (omega (arith, c.row_count-rows.ensures, many, c.if-rows-gt-MOST_ITEMS.false)))) in
+    let same_bytes : c.row_count-rows.result * (2 * (c.len.result - 1)) ≡ length rows * (2 * (width - 1)) =
+    (λ j. c.row_count-rows.ensures j * (2 * (kids j - 1))) ∙ ap (λ n. n * (2 * (width - 1))) (sym many) in
     subst (λ fault. IsLong (lines_unless (Nest width column rows) fault)) none
     (omega (arith, long, same_bytes, nest-lines column width inside rows self))
+
+pub returns-clause-many : goal.returns-clause-many
+returns-clause-many c = λ few limit.
+    let kids : c.len.result ≡ length (children_of (typed_of c.args.typed.now)) =
+    omega (arith, children-count c.args.typed.now c.kinds_of_typed.ensures, c.len.ensures, (out-Typed c.args.typed.now).kids.ok) in
+    let same_bytes : c.row_count-rows.result * (2 * (c.len.result - 1)) ≡ tree_items c.args.array.now * (2 * (length (children_of (typed_of c.args.typed.now)) - 1)) =
+    (λ j. c.row_count-rows.ensures j * (2 * (kids j - 1))) in
+    grind (arith, nat_tests, limit, same_bytes)

@@ -9,7 +9,7 @@ returns-then-rows-clause-long c = λ _.
     let rows = row_items (typed_of c.args.typed.now) c.args.array.now in
     omega (
       arith,
-      c.row_count.ensures,
+      c.row_count-rows.ensures,
       c.if-rows.true,
       least-text rows (tree_items c.args.array.now) 4 (λ i lt. any-line (rows i)),
     )
@@ -19,7 +19,7 @@ returns-clause-long c = λ long.
     let rows = row_items (typed_of c.args.typed.now) c.args.array.now in
     omega (
       arith,
-      c.row_count.ensures,
+      c.row_count-rows.ensures,
       long,
       c.saturating_mul.ensures,
       least-text rows (tree_items c.args.array.now) c.least_line.result c.least_line.ensures,

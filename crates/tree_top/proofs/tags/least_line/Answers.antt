@@ -3,6 +3,7 @@ use Rattle.data_types.specs.promise.KindTrees.{KindTree}
 use Rattle.data_types.specs.promise.TypedView.{typed_of}
 use Rattle.data_types.specs.TypedView.{kids_of}
 use Rattle.data_types.specs.promise.Value.{Null}
+use Rattle.data_types.specs.declared.typed.Typed.{out-Typed}
 use Rattle.layout_rules.specs.promise.Layout.{first}
 use Rattle.layout_rules.specs.promise.Values.{row_items, tree_items, value_at}
 use Rattle.layout_rules.specs.promise.Walk.{LayoutOk}
@@ -12,13 +13,14 @@ use Rattle.tree_model.specs.promise.TreeParts.{IsLive, child_at}
 use Rattle.value_text.specs.Lengths.{text_length}
 use Rattle.list_cols.proofs.Chunks.{chunk-is, reaches, row-item, row-long}
 use Rattle.list_cols.proofs.Kids.{kid-is, kid-ok, kids-are, level-live, many-kids}
+use Rattle.tree_top.proofs.ForeignRows.{live-kinds}
 use Rattle.tree_top.proofs.TagLines.{any-line, known-line}
 use Rattle.tree_top.proofs.tags.least_line.Goals as goal
 
 pub index-requires : goal.index-requires
 index-requires c =
     let t = c.args.typed.now in
-    omega (arith, c.in-Some.ensures.inside, many-kids t, ap length (kids-are t c.kinds_of_typed.ensures))
+    omega (arith, c.in-Some.ensures.inside, (out-Typed t).kids.ok, many-kids t, ap length (kids-are t c.kinds_of_typed.ensures))
 
 pub measured_lengths-requires-clause-types : goal.measured_lengths-requires-clause-types
 measured_lengths-requires-clause-types c =
@@ -53,8 +55,12 @@ returns-in-Ok-Same c = λ (i : ℕ) (lt : i < tree_items c.args.array.now).
     let place = first (members_of array) + i in
     let value : value_at (typed_of kid) c.child.result.now place ≡ get_or (row_items (typed_of t) array i) k Null =
     (λ j. value_at (sym kinds j) (c.child.ensures j) place) ∙ sym (row-item 0 (typed_of t) array is (omega (arith, inside)) k i inside) in
-    let live = subst IsLive (sym kinds) tt in
+    let own : IsLive (typed_of kid) = live-kinds (typed_of kid) (kid-ok t kid k c.kinds_of_typed.ensures c.requires.types stored c.index.ensures) in
+    let live : IsLive (child_at (typed_of t) k) = subst IsLive (sym kinds) own in
     let within : place < tree_items c.child.result.now =
     omega (arith, lt, reaches 0 (typed_of t) array is (omega (arith, inside)) k live, ap tree_items c.child.ensures) in
     known-line (row_items (typed_of t) array i) k c.in-Ok-Same.length (omega (arith, inside, row-long 0 (typed_of t) array is (omega (arith, inside)) i))
     (λ j less. c.in-Some.ensures.nulls j less i) (c.in-Ok-Same.ensures place within ∙ ap text_length value)
+
+pub returns-in_default : goal.returns-in_default
+returns-in_default c = λ i lt. any-line (row_items (typed_of c.args.typed.now) c.args.array.now i)
