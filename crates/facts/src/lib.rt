@@ -10,15 +10,15 @@
 
 mod answers;
 mod csv_text;
+mod encoded_runs;
 mod formats;
 mod inside;
 mod links;
 mod lists;
-mod run_ends;
-mod stages;
 mod statuses;
 mod streams;
 mod structures;
+mod table_stages;
 mod trees;
 mod unions;
 mod values;
@@ -26,15 +26,15 @@ mod words;
 
 pub use answers::text_answers;
 pub use csv_text::{csv_texts, headers, made_texts, rfc_4180};
+pub use encoded_runs::{run_arrays, standard_runs};
 pub use formats::{format_texts, metadata};
 pub use inside::{groups, made_arrays, picked_columns, windows};
 pub use links::{batches, link_chunks};
 pub use lists::list_rows;
-pub use run_ends::{run_arrays, standard_runs};
-pub use stages::{dictionary_runs, marked_runs, plans, stage_runs, stage_texts};
 pub use statuses::{run_statuses, tree_statuses};
 pub use streams::shown_chunks;
 pub use structures::{arrays, standard_arrays};
+pub use table_stages::{dictionary_runs, marked_runs, plans, stage_runs, stage_texts};
 pub use trees::tree_texts;
 pub use unions::{standard_unions, tags, union_arrays};
 pub use values::{encodings, fields, standard_columns};

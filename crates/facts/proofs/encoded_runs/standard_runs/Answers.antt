@@ -1,5 +1,5 @@
 use Rattle.std.proofs.Common.{refl}
-use Rattle.facts.proofs.run_ends.standard_runs.Goals as goal
+use Rattle.facts.proofs.encoded_runs.standard_runs.Goals as goal
 
 pub returns : goal.returns
 returns c = record {

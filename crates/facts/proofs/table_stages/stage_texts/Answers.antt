@@ -4,7 +4,7 @@ use Rattle.std.specs.Fmt.{digits}
 use lib.Utf8.{encode}
 use Rattle.csv.specs.Writing.{escaped, fields_text, is_blank}
 use Rattle.csv.proofs.OnLiterals.{csv_on_literals}
-use Rattle.facts.proofs.stages.stage_texts.Goals as goal
+use Rattle.facts.proofs.table_stages.stage_texts.Goals as goal
 
 pub returns : goal.returns
 unfolding csv_on_literals is_utf8 chars encode escaped fields_text is_blank digits

@@ -1,7 +1,7 @@
 use Rattle.std.proofs.Common.{refl}
 use Rattle.std.specs.Str.{chars, is_utf8}
 use lib.Utf8.{encode}
-use Rattle.facts.proofs.run_ends.run_arrays.Goals as goal
+use Rattle.facts.proofs.encoded_runs.run_arrays.Goals as goal
 
 pub returns : goal.returns
 unfolding is_utf8 chars encode
