@@ -126,6 +126,17 @@ pub told-here : (fault : RunFault) (request : Request) (entries : List TypeEntry
 told-here fault request entries rs records (inl memory) same all = inl memory
 told-here fault request entries rs records (inr told) same all = inr (ap (answer_of_records request) (sym all) ∙ told request (sym same))
 
+-- the fault of a stage that doesn't fit the columns of this header
+pub plan-here : (fault : RunFault) (request : Request) (columns : List Column) (texts : List StageText) (records : List Record)
+    → header_of (entries_of request.entries) records ≡ Ok columns → texts ≡ request.stages
+    → (fault ≡ run.NoMemory) ⊎ ((mark : List ℕ) (rows : List Record) → answer_of_plan mark columns (plan_of columns texts) rows ≡ Fault fault)
+    → (fault ≡ run.NoMemory) ⊎ (answer_of_records request records ≡ Fault fault)
+plan-here fault request columns texts records found same (inl memory) = inl memory
+plan-here fault request columns texts records found same (inr told) =
+    inr (over-columns request records columns found
+    ∙ ap (λ stages. answer_of_plan request.mark columns (plan_of columns stages) (behind_header records)) (sym same)
+    ∙ told request.mark (behind_header records))
+
 pub source-is : (s : Stream) (mark given : List ℕ) (columns cols : List Column) (records rs : List Record) (batch : ℕ)
     → s ≡ stream_of cols (batches_in given cols rs batch) → given ≡ mark → cols ≡ columns → rs ≡ records
     → s ≡ stream_of columns (batches_in mark columns records batch)

@@ -290,11 +290,11 @@ by-parts _ = refl
 
 pub of-fault : (command : Option Command) (bytes : List ℕ) (fault : TreeRunFault) → (is_decided fault ≡ true → IsAnswerTo command bytes (Fault fault))
     → has_memory_inside fault ≡ false
-of-fault command bytes (run.Text fault) answer = by-parts _ ∙ of-answer command bytes (Fault (run.Text fault)) (answer refl)
-of-fault command bytes (run.Schema path rule) answer = by-parts _ ∙ of-answer command bytes (Fault (run.Schema path rule)) (answer refl)
-of-fault command bytes (run.UnionSchema fault) answer = by-parts _ ∙ of-answer command bytes (Fault (run.UnionSchema fault)) (answer refl)
-of-fault command bytes (run.Tag fault) answer = by-parts _ ∙ of-answer command bytes (Fault (run.Tag fault)) (answer refl)
-of-fault command bytes (run.RunsSchema fault) answer = by-parts _ ∙ of-answer command bytes (Fault (run.RunsSchema fault)) (answer refl)
-of-fault command bytes (run.Code fault) answer = by-parts _ ∙ of-answer command bytes (Fault (run.Code fault)) (answer refl)
-of-fault command bytes (run.Lists fault) answer = by-parts _ ∙ of-answer command bytes (Fault (run.Lists fault)) (answer refl)
+of-fault command bytes (run.Text fault) answer = by-parts (run.Text fault) ∙ of-answer command bytes (Fault (run.Text fault)) (answer refl)
+of-fault command bytes (run.Schema path rule) answer = by-parts (run.Schema path rule) ∙ of-answer command bytes (Fault (run.Schema path rule)) (answer refl)
+of-fault command bytes (run.UnionSchema fault) answer = by-parts (run.UnionSchema fault) ∙ of-answer command bytes (Fault (run.UnionSchema fault)) (answer refl)
+of-fault command bytes (run.Tag fault) answer = by-parts (run.Tag fault) ∙ of-answer command bytes (Fault (run.Tag fault)) (answer refl)
+of-fault command bytes (run.RunsSchema fault) answer = by-parts (run.RunsSchema fault) ∙ of-answer command bytes (Fault (run.RunsSchema fault)) (answer refl)
+of-fault command bytes (run.Code fault) answer = by-parts (run.Code fault) ∙ of-answer command bytes (Fault (run.Code fault)) (answer refl)
+of-fault command bytes (run.Lists fault) answer = by-parts (run.Lists fault) ∙ of-answer command bytes (Fault (run.Lists fault)) (answer refl)
 of-fault command bytes _ answer = refl

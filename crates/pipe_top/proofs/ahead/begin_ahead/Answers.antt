@@ -1,4 +1,4 @@
-use Rattle.std.proofs.Common.{◌≡◌, ◌∙◌, List, Ok, ap, arith, length, map, subst, sym}
+use Rattle.std.proofs.Common.{◌≡◌, ◌∙◌, ◌⊎◌, IfErr, List, Ok, ap, arith, length, map, subst, sym}
 use Rattle.std.proofs.lemmas.List.{length-map}
 use Rattle.csv_model.specs.promise.Header.{header_of}
 use Rattle.csv_model.specs.promise.Reading.{Record, behind_header, records_of}
@@ -7,8 +7,12 @@ use Rattle.csv_source.specs.AheadSources.{ahead_state}
 use Rattle.field_codec.specs.TextColumns.{AreAllowed, AreProper}
 use Rattle.data_types.specs.ColumnView.{column_of}
 use Rattle.run_model.specs.Outcomes.{request_of}
+use Rattle.run_model.specs.promise.Answer.{Fault}
+use Rattle.run_model.specs.promise.RunAnswer.{answer_of_records}
+use Rattle.run_model.specs.declared.fault.RunFault.TheVariants as run
 use Rattle.stage_plan.specs.PlanWords.{IsPlan}
-use Rattle.pipe_top.proofs.Bodies.{source-is, told-here}
+use Rattle.pipe_top.proofs.Carried.{the-error}
+use Rattle.pipe_top.proofs.Bodies.{plan-here, source-is, told-here}
 use Rattle.pipe_top.proofs.ahead.begin_ahead.Goals as goal
 
 -- ---- the header
@@ -49,3 +53,16 @@ returns-clause-begun g c =
           (c.read_columns-columns.ensures ∙ c.in_ok-plan.ensures.read) (c.in-Ok.ensures.behind ∙ ap behind_header c.in_ok-records.ensures.records);
       plan_is = subst (λ ts. IsPlan cols ts c.in_ok-plan.plan) c.as_slice-2.ensures.value c.in_ok-plan.ensures.found;
     }
+
+-- ---- a stage that doesn't fit
+pub returns-in_err-plan-clause-fault : goal.returns-in_err-plan-clause-fault
+returns-in_err-plan-clause-fault g c =
+    let request = request_of c.args.request.now in
+    let records = records_of c.args.bytes.items in
+    let cols = map column_of c.in-Ok.columns.items in
+    let found : header_of (entries_of request.entries) records ≡ Ok cols =
+    subst (λ es. header_of (entries_of es) records ≡ Ok cols) c.as_slice.ensures.value
+    (subst (λ (rs : List Record). header_of (entries_of c.as_slice.result.now) rs ≡ Ok cols) c.in_ok-records.ensures.records c.in-Ok.ensures.found) in
+    let is = the-error c.from_residual-in_err-plan.result c.in_err-plan.field-0.0 c.from_residual-in_err-plan.ensures.1 in
+    subst (λ r. IfErr r (λ fault. (fault ≡ run.NoMemory) ⊎ (answer_of_records request records ≡ Fault fault))) (sym is)
+    (plan-here c.in_err-plan.field-0.0 request cols c.as_slice-2.result.now records found c.as_slice-2.ensures.value c.in_err-plan.ensures.fault)

@@ -1,9 +1,11 @@
-use Rattle.std.proofs.Common.{◌≡◌, ◌∙◌, ℕ, List, [], ◌∷◌, map, subst}
+use Rattle.std.proofs.Common.{◌≡◌, ◌∙◌, ℕ, List, [], ◌∷◌, ap, map, subst, sym}
 use Rattle.data_types.specs.ColumnView.{column_of}
 use Rattle.data_types.specs.promise.Table.{Row}
 use Rattle.data_types.specs.declared.kind.ColumnType.{ColumnType}
 use Rattle.raw_array.specs.promise.Members.{ArrayTree}
 use Rattle.dict_stage.specs.Indices.{HasColumn}
+use Rattle.stage_model.specs.promise.Stages.{chunks_after}
+use Rattle.total_stage.specs.Froms.{ahead_from}
 use Rattle.pipe_top.proofs.Fitting.{dict-fits, filter-fits, pack-fits, plain-fits, select-fits, totals-fits, unpack-fits}
 use Rattle.pipe_top.proofs.any_step.AnyStepPlanStep.of.Goals as goal
 
@@ -86,3 +88,9 @@ returns-in-Unpack-clause-gives c = λ rows chunk given. rw c.in-Unpack.is tt
 
 pub returns-in-Totals-clause-gives : goal.returns-in-Totals-clause-gives
 returns-in-Totals-clause-gives c = λ rows chunk given. rw c.in-Totals.is tt
+
+pub returns-in-Totals-clause-ahead : goal.returns-in-Totals-clause-ahead
+returns-in-Totals-clause-ahead c = λ ending tables.
+    (λ j. ahead_from (c.new-in-Totals.ensures.sums j) ((c.new-in-Totals.ensures.picks ∙ c.into_vec-in-Totals.ensures) j)
+    (c.new-in-Totals.ensures.given j) ending tables)
+    ∙ ap (λ step. chunks_after step ending tables) (sym c.in-Totals.is)
