@@ -118,7 +118,7 @@ has-key before (v ∷ vs) (suc k) d lt self =
     (distinct_behind (v ∷ before) vs) (has-key before vs k d near self) (has-key (v ∷ before) vs k d near self)
 
 module _ (column : ℕ) where
-  abbrev IsSelf : Row → Type 0
+  abbrev pub IsSelf : Row → Type 0
   IsSelf row = same (get_or row column Null) (get_or row column Null) ≡ true
 
   abbrev HasKey : List Value → Row → Type 0

@@ -1,4 +1,4 @@
-use Rattle.std.proofs.Common.{◌≡◌, ◌∙◌, ◌+◌, ◌*◌, ◌-◌, ◌≤◌, All, true, None, length, get_or, ap, arith, mul-le-mul, subst, sym}
+use Rattle.std.proofs.Common.{◌≡◌, ◌∙◌, ◌+◌, ◌*◌, ◌-◌, ◌<◌, ◌≤◌, All, true, None, length, get_or, ap, arith, mul-le-mul, subst, sym}
 use Rattle.std.proofs.lemmas.Bool.Decides.{nat_tests}
 use Rattle.arr_export.proofs.Each.{length-each, value-there}
 use Rattle.arr_import.proofs.Reading.{children-count}
@@ -42,7 +42,9 @@ returns-clause-long c = λ long flat column inside.
     omega (arith, children-count c.args.typed.now c.kinds_of_typed.ensures, c.len.ensures, (out-Typed c.args.typed.now).kids.ok) in
     let self : All (IsSelf column) rows = λ i d lt.
     let small : i < tree_items array = omega (arith, many, lt) in
-    let here : get_or rows i d ≡ row_items typed array i = value-there (row_items typed array) 0 (tree_items array) i d small in
+    let from : 0 + i ≡ i = omega (arith) in
+    let here : get_or rows i d ≡ row_items typed array i =
+    value-there (row_items typed array) 0 (tree_items array) i d small ∙ ap (row_items typed array) from in
     let value : value_at (child_at typed column) (child_at array column) (first (members_of array) + i) ≡ get_or (get_or rows i d) column Null =
     sym (ap (λ (row : Row). get_or row column Null) here ∙ row-item column typed array is inside column i inside) in
     subst (λ (v : Value). same v v ≡ true) value
@@ -52,8 +54,9 @@ returns-clause-long c = λ long flat column inside.
     ∙ ap (fault_of None) (not-too-long column width inside rows (omega (arith, c.row_count-rows.ensures, many, c.if-rows-gt-MOST_ITEMS.false)))) in
     let same_bytes : c.row_count-rows.result * (2 * (c.len.result - 1)) ≡ length rows * (2 * (width - 1)) =
     (λ j. c.row_count-rows.ensures j * (2 * (kids j - 1))) ∙ ap (λ n. n * (2 * (width - 1))) (sym many) in
+    let above : 2147483645 < c.row_count-rows.result * (2 * (c.len.result - 1)) = grind (arith, nat_tests, long) in
     subst (λ fault. IsLong (lines_unless (Nest width column rows) fault)) none
-    (omega (arith, long, same_bytes, nest-lines column width inside rows self))
+    (omega (arith, above, same_bytes, nest-lines column width inside rows self))
 
 pub returns-clause-many : goal.returns-clause-many
 returns-clause-many c = λ few limit.

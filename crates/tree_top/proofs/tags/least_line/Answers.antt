@@ -1,4 +1,4 @@
-use Rattle.std.proofs.Common.{◌≡◌, ◌∙◌, ◌+◌, ◌<◌, ℕ, length, get_or, ap, arith, subst, sym}
+use Rattle.std.proofs.Common.{◌≡◌, ◌∙◌, ◌+◌, ◌<◌, ◌≤◌, ℕ, length, get_or, ap, arith, subst, sym}
 use Rattle.data_types.specs.promise.KindTrees.{KindTree}
 use Rattle.data_types.specs.promise.TypedView.{typed_of}
 use Rattle.data_types.specs.TypedView.{kids_of}
@@ -10,12 +10,14 @@ use Rattle.layout_rules.specs.promise.Walk.{LayoutOk}
 use Rattle.raw_array.specs.promise.Members.{ArrayTree, members_of}
 use Rattle.tree_model.specs.promise.TreeData.{Released}
 use Rattle.tree_model.specs.promise.TreeParts.{IsLive, child_at}
-use Rattle.value_text.specs.Lengths.{text_length}
+use Rattle.value_text.specs.Lengths.{Tells, text_length}
 use Rattle.list_cols.proofs.Chunks.{chunk-is, reaches, row-item, row-long}
 use Rattle.list_cols.proofs.Kids.{kid-is, kid-ok, kids-are, level-live, many-kids}
 use Rattle.tree_top.proofs.ForeignRows.{live-kinds}
 use Rattle.tree_top.proofs.TagLines.{any-line, known-line}
+use Rattle.tree_top.specs.NewLengths.{tag_line}
 use Rattle.tree_top.proofs.tags.least_line.Goals as goal
+use Rattle.tree_top.proofs.tags.least_line.Goals.{in_default-measured_lengths, in_default-measured_lengths-2}
 
 pub index-requires : goal.index-requires
 index-requires c =
@@ -59,8 +61,19 @@ returns-in-Ok-Same c = λ (i : ℕ) (lt : i < tree_items c.args.array.now).
     let live : IsLive (child_at (typed_of t) k) = subst IsLive (sym kinds) own in
     let within : place < tree_items c.child.result.now =
     omega (arith, lt, reaches 0 (typed_of t) array is (omega (arith, inside)) k live, ap tree_items c.child.ensures) in
-    known-line (row_items (typed_of t) array i) k c.in-Ok-Same.length (omega (arith, inside, row-long 0 (typed_of t) array is (omega (arith, inside)) i))
-    (λ j less. c.in-Some.ensures.nulls j less i) (c.in-Ok-Same.ensures place within ∙ ap text_length value)
+    let told = subst (λ lengths. Tells lengths (value_at (typed_of kid) c.child.result.now) (tree_items c.child.result.now)) c.in-Ok-Same.field-0-is c.in-Ok-Same.ensures in
+    subst (λ n. 3 + n ≤ length (tag_line (row_items (typed_of t) array i))) (sym c.from.ensures)
+    (known-line (row_items (typed_of t) array i) k c.in-Ok-Same.length (omega (arith, inside, row-long 0 (typed_of t) array is (omega (arith, inside)) i))
+    (λ j less. c.in-Some.ensures.nulls j less i) (told place within ∙ ap text_length value))
 
 pub returns-in_default : goal.returns-in_default
 returns-in_default c = λ i lt. any-line (row_items (typed_of c.args.typed.now) c.args.array.now i)
+
+pub returns : goal.returns
+returns c = λ i lt.
+    let line = tag_line (row_items (typed_of c.args.typed.now) c.args.array.now i) in
+    let least : 4 ≤ length line = any-line (row_items (typed_of c.args.typed.now) c.args.array.now i) in
+    elim c.match-measured_lengths.branch [
+      | in_default-measured_lengths w ↦ subst (λ n. n ≤ length line) (sym w.result-is) least
+      | in_default-measured_lengths-2 w ↦ subst (λ n. n ≤ length line) (sym w.result-is) least
+    ]
