@@ -4,6 +4,7 @@ import json
 import os
 import re
 import resource
+import signal
 import subprocess
 
 TOP = os.path.dirname(os.path.dirname(os.path.abspath(__file__)))
@@ -33,6 +34,8 @@ class Runner:
 
 
 def serve(asked, told):
+    # Ctrl-C ends neither this process nor a run: the bench tells what it has.
+    signal.signal(signal.SIGINT, signal.SIG_IGN)
     for line in asked:
         words, given, text, errors, seconds = json.loads(line)
         made = os.O_WRONLY | os.O_CREAT | os.O_TRUNC

@@ -6,3 +6,4 @@ pub mod KidsTold
 pub mod Sizes
 mod NumberedLines
 mod FieldColumns
+mod Entries

@@ -1,5 +1,5 @@
 -- The columns of a struct's fields, whose items are read by their places where they are stored so.
-use Rattle.std.specs.Prelude.{ℕ, Option, None, Some}
+use Rattle.std.specs.Prelude.{Option, None, Some}
 use Rattle.arr_import.specs.Cols.{window_of}
 use Rattle.arr_import.specs.Plain.{IsPlainStorage, ShowsItems, storage_in}
 use Rattle.arr_import.specs.Window.{Window, item_at}

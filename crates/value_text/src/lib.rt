@@ -19,6 +19,7 @@
 mod bound;
 mod bounded;
 mod escapes;
+mod homes;
 mod lengths;
 mod lines;
 mod measure;

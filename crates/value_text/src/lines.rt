@@ -6,16 +6,19 @@ ghost use Rattle.data_types.specs.promise.TypedView.{typed_of};
 ghost use Rattle.layout_rules.specs.promise.Values.{values_of};
 ghost use Rattle.layout_rules.specs.promise.Walk.{LayoutOk};
 ghost use Rattle.arr_import.specs.Cols.{window_of};
+ghost use Rattle.arr_import.specs.Indexing.{entries_of, shown_by};
 ghost use Rattle.arr_import.specs.Window.{items_of};
 ghost use Rattle.data_types.specs.promise.ValueTexts.{lines_text, value_line};
 ghost use Rattle.data_types.specs.ValueTexts.{text_limit};
+ghost use Rattle.value_text.specs.Homes.{AreHomes};
 
 use crate::bound::text_bound;
 use crate::bounded::BoundedText;
+use crate::homes::{Homes, homes_of, push_entry};
 use crate::measure::text_length;
 use crate::table::{fields_of, is_table, push_rows};
 use crate::value::{count_items, push_value};
-use arr_import::Col;
+use arr_import::{Col, Indexed};
 use data_types::Typed;
 use raw_array::RawArray;
 use std::alloc::Global;
@@ -59,11 +62,42 @@ fn push_items(
         let fields = fields_of(alloc, &columns)?;
         return push_rows(text, col, &fields);
     }
-    push_lines(text, col)
+    push_lines(alloc, text, col)
 }
 
-/// Appends a line for each item of a column.
-fn push_lines(text: &mut BoundedText, col: &Col<'_>) -> Result<(), NoMemory>
+/// Appends a line for each item of a column. Where it has a dictionary, that one's own are followed once for each of its items.
+fn push_lines(alloc: Global, text: &mut BoundedText, col: &Col<'_>) -> Result<(), NoMemory>
+    ensures { OnOk result (text.new ≡ text.old ++ flat_map value_line (items_of (window_of col.now))) }
+{
+    match col.indexed() {
+        Some(indexed) => {
+            let entries = homes_of(alloc, indexed.entries())?;
+            push_entries(text, col, &indexed, &entries)
+        }
+        None => push_values(text, col),
+    }
+}
+
+/// The same of a column whose dictionary's items are there.
+fn push_entries(
+    text: &mut BoundedText,
+    col: &Col<'_>,
+    indexed: &Indexed<'_>,
+    entries: &Homes<'_>,
+) -> Result<(), NoMemory>
+    requires shown { shown_by indexed.now ≡ window_of col.now }
+    requires entries { AreHomes entries.now (entries_of indexed.now) }
+    ensures { OnOk result (text.new ≡ text.old ++ flat_map value_line (items_of (window_of col.now))) }
+{
+    for i in 0..count_items(col) {
+        push_entry(text, indexed, entries, i)?;
+        text.push(b'\n')?;
+    }
+    Ok(())
+}
+
+/// The same of a column whose items are found one by one.
+fn push_values(text: &mut BoundedText, col: &Col<'_>) -> Result<(), NoMemory>
     ensures { OnOk result (text.new ≡ text.old ++ flat_map value_line (items_of (window_of col.now))) }
 {
     for i in 0..count_items(col) {

@@ -1,23 +1,22 @@
 //! The rows of a struct column, the columns of whose fields are looked up once.
-ghost use Rattle.std.specs.Prelude.{◌≡◌, None, true, ◌+◌, ◌<◌, ◌++◌, ◌^◌, ℕ, All, IfOk, OnOk, if◌then◌else◌, get_or, length, map};
+ghost use Rattle.std.specs.Prelude.{◌≡◌, None, true, ◌+◌, ◌<◌, ◌++◌, ◌^◌, ℕ, All, IfOk, OnOk, get_or, length, map};
 ghost use Rattle.std.specs.List.{flat_map};
 ghost use Rattle.data_types.specs.promise.Value.{values};
-ghost use Rattle.data_types.specs.promise.Value.Value.{Fields, Null};
+ghost use Rattle.data_types.specs.promise.Value.Value.{Fields};
 ghost use Rattle.tree_model.specs.promise.TreeParts.{dictionary_of};
 ghost use Rattle.data_types.specs.promise.TypedView.{typed_of};
 ghost use Rattle.layout_rules.specs.promise.Values.{row_items};
 ghost use Rattle.arr_import.specs.Cols.{window_of};
 ghost use Rattle.arr_import.specs.Window.{IsStruct, item_at, items_of};
-ghost use Rattle.arr_import.specs.Plain.{IsItemThere, IsPlainStorage, is_valid_in, storage_in, valid_item};
 ghost use Rattle.data_types.specs.promise.ValueTexts.{value_line, value_text};
 ghost use Rattle.value_text.specs.Behind.{item_text};
 ghost use Rattle.value_text.specs.Fields.{IsRead};
 ghost use Rattle.value_text.specs.declared.table.Field.{Field as AField};
 
 use crate::bounded::BoundedText;
-use crate::value::{count_items, number, push_float, push_part, push_text, push_truth, push_value};
+use crate::value::{count_items, number, push_part, push_plain, push_value};
 use arr_import::{Col, Plain, ValueRef};
-use data_types::{DataType, Storage, Typed, kinds_of_typed};
+use data_types::{DataType, Typed, kinds_of_typed};
 use std::alloc::Global;
 use unit_pass::NoMemory;
 
@@ -53,26 +52,6 @@ pub(crate) fn fields_of<'a>(alloc: Global, columns: &[Col<'a>]) -> Result<Vec<Fi
         })?;
     }
     Ok(fields)
-}
-
-/// Appends the text of an item that is stored by its place.
-#[inline(always)]
-fn push_plain(text: &mut BoundedText, items: &Plain<'_>, i: u64) -> Result<(), NoMemory>
-    requires there { IsItemThere items.now i }
-    requires stored { IsPlainStorage (storage_in items.now) }
-    ensures { OnOk result (text.new ≡ text.old ++ value_text (if is_valid_in items.now i then valid_item items.now i else Null)) }
-{
-    if !items.is_valid(i) {
-        return text.push(b'~');
-    }
-    match items.storage() {
-        Storage::Between { wide, .. } => push_text(text, items.between(wide, i)),
-        Storage::Wholes { bits, signed } => text.push_whole(items.whole(bits, signed, i)),
-        Storage::Floats { bits } => push_float(text, items.float_bits(bits, i)),
-        Storage::Sized { size } => push_text(text, items.sized(size, i)),
-        Storage::Truths => push_truth(text, items.truth(i)),
-        _ => Ok(()),
-    }
 }
 
 /// Appends the text of item `i` of a field.

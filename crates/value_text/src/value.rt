@@ -1,16 +1,18 @@
 //! The text of an item of a column, appended to a text.
-ghost use Rattle.std.specs.Prelude.{◌≡◌, ◌+◌, ◌<◌, ◌++◌, ◌^◌, pos, OnOk};
+ghost use Rattle.std.specs.Prelude.{◌≡◌, ◌+◌, ◌<◌, ◌++◌, ◌^◌, if◌then◌else◌, pos, OnOk};
 ghost use Rattle.data_types.specs.promise.Value.{Value, values};
 ghost use Rattle.data_types.specs.promise.Value.Value.{Fields, Items, Null, Truth, Whole, Bits, Bytes};
 ghost use Rattle.layout_rules.specs.promise.Values.{row_items};
 ghost use Rattle.arr_import.specs.Cols.{window_of};
+ghost use Rattle.arr_import.specs.Plain.{IsItemThere, IsPlainStorage, ShowsItems, is_valid_in, storage_in, valid_item};
 ghost use Rattle.arr_import.specs.Window.{IsStruct, item_at, items_of};
 ghost use Rattle.data_types.specs.promise.ValueTexts.{value_text};
 ghost use Rattle.value_text.specs.Behind.{item_text};
 
 use crate::bounded::BoundedText;
 use crate::escapes::push_escaped;
-use arr_import::{Col, ValueRef};
+use arr_import::{Col, Plain, ValueRef};
+use data_types::Storage;
 use unit_pass::NoMemory;
 
 /// The number of a column's items.
@@ -56,6 +58,26 @@ pub(crate) fn push_text(text: &mut BoundedText, bytes: &[u8]) -> Result<(), NoMe
     push_escaped(text, bytes)
 }
 
+/// Appends the text of an item that is stored by its place.
+#[inline(always)]
+pub(crate) fn push_plain(text: &mut BoundedText, items: &Plain<'_>, i: u64) -> Result<(), NoMemory>
+    requires there { IsItemThere items.now i }
+    requires stored { IsPlainStorage (storage_in items.now) }
+    ensures { OnOk result (text.new ≡ text.old ++ value_text (if is_valid_in items.now i then valid_item items.now i else Null)) }
+{
+    if !items.is_valid(i) {
+        return text.push(b'~');
+    }
+    match items.storage() {
+        Storage::Between { wide, .. } => push_text(text, items.between(wide, i)),
+        Storage::Wholes { bits, signed } => text.push_whole(items.whole(bits, signed, i)),
+        Storage::Floats { bits } => push_float(text, items.float_bits(bits, i)),
+        Storage::Sized { size } => push_text(text, items.sized(size, i)),
+        Storage::Truths => push_truth(text, items.truth(i)),
+        _ => Ok(()),
+    }
+}
+
 /// Appends the text of item `i` of a column.
 #[cycle(texts)]
 pub fn push_value(text: &mut BoundedText, col: &Col<'_>, i: u64) -> Result<(), NoMemory>
@@ -96,6 +118,32 @@ pub(crate) fn push_part(
     push_value(text, col, i)
 }
 
+/// Appends the text of the part of a list that has this number, an item that is stored by its place.
+#[inline(always)]
+fn push_plain_part(text: &mut BoundedText, items: &Plain<'_>, i: u64) -> Result<(), NoMemory>
+    requires there { IsItemThere items.now i }
+    requires stored { IsPlainStorage (storage_in items.now) }
+    ensures { OnOk result (text.new ≡ text.old ++ item_text i (if is_valid_in items.now i then valid_item items.now i else Null)) }
+{
+    if i > 0 {
+        text.push(b',')?;
+    }
+    push_plain(text, items, i)
+}
+
+/// Appends the text of a list of all items of a column, which are stored by their places.
+fn push_plain_list(text: &mut BoundedText, col: &Col<'_>, items: &Plain<'_>) -> Result<(), NoMemory>
+    requires items { ShowsItems items.now (window_of col.now).count (item_at (window_of col.now)) }
+    requires stored { IsPlainStorage (storage_in items.now) }
+    ensures { OnOk result (text.new ≡ text.old ++ value_text (Items (values (items_of (window_of col.now))))) }
+{
+    text.push(b'[')?;
+    for i in 0..count_items(col) {
+        push_plain_part(text, items, i)?;
+    }
+    text.push(b']')
+}
+
 /// Appends the text of a list of all items of a column. An item has at least a byte, and a comma or a bracket behind it.
 #[cycle(texts)]
 fn push_list(text: &mut BoundedText, col: &Col<'_>) -> Result<(), NoMemory>
@@ -103,6 +151,9 @@ fn push_list(text: &mut BoundedText, col: &Col<'_>) -> Result<(), NoMemory>
 {
     let count = count_items(col);
     text.has_room(count * 2)?;
+    if let Some(items) = col.plain() {
+        return push_plain_list(text, col, &items);
+    }
     text.push(b'[')?;
     for i in 0..count {
         push_part(text, i, col, i)?;

@@ -1,4 +1,4 @@
-use Rattle.std.proofs.Common.{◌≡◌, ◌∙◌, ◌+◌, ◌++◌, ◌∷◌, [], List, ℕ, get_or, length, ap, sym, subst}
+use Rattle.std.proofs.Common.{◌∙◌, ◌+◌, ◌++◌, ◌∷◌, [], List, ℕ, ap, sym, subst}
 use Rattle.value_text.specs.Lengths.{AreSummed}
 use Rattle.value_text.specs.declared.lengths.Lengths.TheVariants as all
 use Rattle.value_text.proofs.LengthSums.{any-length, summed-own, summed-same}

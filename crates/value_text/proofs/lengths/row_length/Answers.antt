@@ -1,4 +1,4 @@
-use Rattle.std.proofs.Common.{◌≡◌, List, ap, arith}
+use Rattle.std.proofs.Common.{List, ap, arith}
 use Rattle.data_types.specs.promise.Value.{Value}
 use Rattle.value_text.specs.Lengths.{AreFieldLengths, some_fields}
 use Rattle.value_text.proofs.LengthSums.{row-long}

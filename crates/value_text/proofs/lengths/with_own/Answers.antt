@@ -1,4 +1,4 @@
-use Rattle.std.proofs.Common.{◌≡◌, ◌∙◌, ◌<◌, ◌≤◌, ℕ, length, get_or, take, ap, arith}
+use Rattle.std.proofs.Common.{◌≡◌, ◌∙◌, get_or, take, ap, arith}
 use Rattle.std.proofs.lemmas.List.{take_all}
 use Rattle.value_text.specs.Lengths.{field_length, length_at, some_fields}
 use Rattle.value_text.specs.declared.lengths.Lengths.TheVariants as all

@@ -1,9 +1,8 @@
-use Rattle.std.proofs.Common.{◌≡◌, ◌∙◌, ◌+◌, ◌<◌, ℕ, length, get_or, ap, subst, sym, arith}
+use Rattle.std.proofs.Common.{◌∙◌, ◌+◌, get_or, ap, subst, sym, arith}
 use Rattle.tree_model.specs.promise.TreeData.{Released}
 use Rattle.tree_model.specs.promise.TreeParts.{child_at}
-use Rattle.data_types.specs.promise.TypedView.{typed_of}
 use Rattle.data_types.specs.TypedView.{kids_of}
-use Rattle.layout_rules.specs.promise.Values.{row_items, tree_items, value_at}
+use Rattle.layout_rules.specs.promise.Values.{tree_items, value_at}
 use Rattle.value_text.specs.Lengths.{IsReached, length_at, text_length}
 use Rattle.value_text.specs.declared.lengths.Lengths.{Lengths}
 use Rattle.value_text.proofs.LengthSums.{are-reached, length-there}

@@ -3,7 +3,7 @@ use Rattle.std.specs.List.{flat_map}
 use Rattle.layout_rules.specs.promise.Values.{each, value_at}
 use Rattle.arr_import.specs.Cols.{window_of}
 use Rattle.data_types.specs.promise.ValueTexts.{value_line}
-use Rattle.value_text.proofs.lines.push_lines.Given as goal
+use Rattle.value_text.proofs.lines.push_entries.Given as goal
 
 -- the lines so far
 abbrev pub invariant-loop-i : goal.invariant-loop-i

@@ -2,9 +2,10 @@ use Rattle.std.proofs.Common.{◌∙◌, ◌+◌, [], ◌∷◌, ◌++◌, ap, a
 use Rattle.std.specs.List.{flat_map}
 use Rattle.layout_rules.specs.promise.Values.{each, value_at}
 use Rattle.arr_import.specs.Cols.{window_of}
+use Rattle.arr_import.specs.Window.{Window, item_at}
 use Rattle.data_types.specs.promise.ValueTexts.{value_line, value_text}
 use Rattle.value_text.proofs.Parts.{appended, lines-more}
-use Rattle.value_text.proofs.lines.push_lines.Goals as goal
+use Rattle.value_text.proofs.lines.push_entries.Goals as goal
 
 pub loop-i-preserved : goal.loop-i-preserved
 loop-i-preserved c =
@@ -12,6 +13,7 @@ loop-i-preserved c =
     let i = c.loop-i.i in
     let f = value_at w.typed w.array in
     let text = value_text (f (w.start + i)) in
-    let line = c.in_ok-push.ensures ∙ ap (λ t. t ++ 10 ∷ []) c.in_ok-push_value.ensures ∙ append_assoc c.loop-i.text text (10 ∷ []) in
+    let entry = c.in_ok-push_entry.ensures ∙ ap (λ (v : Window). c.loop-i.text ++ value_text (item_at v i)) c.requires.shown in
+    let line = c.in_ok-push.ensures ∙ ap (λ t. t ++ 10 ∷ []) entry ∙ append_assoc c.loop-i.text text (10 ∷ []) in
     appended c.args.text.now (flat_map value_line (each f w.start i)) c.loop-i.text c.push.new.self (value_line (f (w.start + i))) _ line
     c.loop-i.invariant (sym (lines-more f w.start i))
