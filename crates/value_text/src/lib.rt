@@ -11,9 +11,9 @@
 //!   struct and of its fields are, by the lengths of its children's ([`children_measured`]).
 //!
 //! The definitions are in `specs/promise/ValueTexts.antt` of `data_types` (the text of a value) and `specs/Lengths.antt` (its
-//! length). The calls go down one level of the checked kinds at a time. They take no memory but that of the text and of the
-//! lengths, and answer `NoMemory` only where it runs out or where a text is too long. Left to others: whether an array is lawful
-//! (`layout_check`), and what an item of it is (`arr_import`).
+//! length). The calls go down one level of the checked kinds at a time. They take no memory but that of the text, of the lengths
+//! and of the places of a dictionary's entries, and answer `NoMemory` only where it runs out or where a text is too long. Left to
+//! others: whether an array is lawful (`layout_check`), and what an item of it is (`arr_import`).
 #![tactic(auto)]
 
 mod bound;
