@@ -10,7 +10,7 @@ use Rattle.layout_rules.specs.promise.Walk.{Fault as ArrayFault, first_chunk_fau
 use Rattle.raw_array.specs.promise.Members.{ArrayTree}
 use Rattle.raw_schema.specs.promise.Members.{SchemaTree}
 use Rattle.schema_check.specs.promise.SchemaAnswers.{FirstFault}
-use Rattle.tree_check.specs.promise.Checks.{array_fault, schema_fault}
+use Rattle.tree_check.specs.Checks.{array_fault, schema_fault}
 use Rattle.tree_check.specs.declared.fault.TreeFault.{TreeFault}
 use Rattle.tree_check.specs.declared.fault.TreeFault.TheVariants as trees
 use Rattle.tree_model.specs.promise.TreeParts.{children_of}

@@ -13,7 +13,7 @@ use Rattle.schema_check.specs.SchemaAnswers.{IsFirstFault}
 use Rattle.schema_check.specs.promise.Schemas.{TypedOf}
 use Rattle.schema_check.specs.declared.schema.SchemaFault.{SchemaFault}
 use Rattle.schema_check.specs.declared.schema.SchemaFault.TheVariants as schemas
-use Rattle.tree_check.specs.promise.Checks.{schema_fault}
+use Rattle.tree_check.specs.Checks.{schema_fault}
 use Rattle.tree_check.specs.Checks.{array_refused, schema_refused, text_refused}
 use Rattle.tree_check.specs.declared.fault.CheckFault.{CheckFault}
 use Rattle.tree_text.specs.promise.Answers.{Reads}

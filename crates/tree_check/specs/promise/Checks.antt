@@ -8,6 +8,7 @@ use Rattle.data_types.specs.promise.Ways.{path_of}
 use Rattle.data_types.specs.promise.KindTrees.{KindTree}
 use Rattle.schema_check.specs.promise.SchemaAnswers.{FirstFault, SchemaReads}
 use Rattle.layout_rules.specs.promise.Walk.{Fault, first_fault}
+use Rattle.layout_rules.specs.declared.rule.LayoutFault.{LayoutFault}
 use Rattle.tree_text.specs.promise.Answers.{Reads}
 use Rattle.tree_text.specs.promise.Report.{ReportOf}
 use Rattle.tree_text.specs.promise.TreeText.{TreeIs}
@@ -17,19 +18,15 @@ use Rattle.tree_check.specs.declared.fault.TreeFault.TheVariants as trees
 
 -- ---- the faults
 
--- the first fault of a schema
-abbrev pub schema_fault : FirstFault → TreeFault
-schema_fault first = trees.Schema (path_of first.path) first.rule
-
--- the first fault of an array
-abbrev pub array_fault : Fault → TreeFault
-array_fault fault = trees.Layout (record {
+-- the first fault of an array, as the code tells it
+abbrev pub array_told : Fault → LayoutFault
+array_told fault = record {
   path = path_of fault.path;
   rule = fault.rule;
   place = fault.numbers.place;
   left = fault.numbers.left;
   right = fault.numbers.right;
-})
+}
 
 -- ---- the check
 
@@ -39,17 +36,13 @@ Checked = Result (List ℕ) TreeFault
 
 abbrev pub array_if : KindTree → ArrayTree → Option Fault → Checked
 array_if typed array None = Ok (ReportOf typed array)
-array_if typed array (Some fault) = Err (array_fault fault)
+array_if typed array (Some fault) = Err (trees.Layout (array_told fault))
 
--- an array under a schema of these kinds: its report, where no rule fails at any node. It may be of any kind, so it isn't
--- asked to be a table
-abbrev pub array_checked : KindTree → ArrayTree → Checked
-array_checked typed array = array_if typed array (first_fault typed array)
-
--- the schema comes first
+-- The schema comes first. An array under a schema of these kinds comes to its report, where no rule fails at any node. It may be of any
+-- kind, so it isn't asked to be a table.
 abbrev pub kinds_checked : Result KindTree FirstFault → ArrayTree → Checked
-kinds_checked (Ok typed) array = array_checked typed array
-kinds_checked (Err first) array = Err (schema_fault first)
+kinds_checked (Ok typed) array = array_if typed array (first_fault typed array)
+kinds_checked (Err first) array = Err (trees.Schema (path_of first.path) first.rule)
 
 -- two trees come to this
 abbrev pub TreesCome : SchemaTree → ArrayTree → Checked → Type 0

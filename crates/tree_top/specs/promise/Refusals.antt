@@ -1,13 +1,12 @@
 -- The fault of a run by that of a check. Out of memory is itself, and the way to a node has 0 in each place behind it.
 use Rattle.data_types.specs.promise.Ways.{path_of}
 use Rattle.layout_rules.specs.promise.Walk.{Fault as ArrayFault}
-use Rattle.layout_rules.specs.declared.rule.LayoutFault.{LayoutFault}
 use Rattle.root_check.specs.declared.own.OwnRule.{OwnRule}
 use Rattle.root_check.specs.declared.own.OwnRule.TheVariants as own
 use Rattle.root_check.specs.declared.own_schema.OwnSchemaFault.{OwnSchemaFault}
 use Rattle.root_check.specs.declared.own_schema.OwnSchemaFault.TheVariants as parts
 use Rattle.schema_check.specs.declared.schema.SchemaFault.TheVariants as schema
-use Rattle.tree_check.specs.declared.fault.TreeFault.{TreeFault}
+use Rattle.tree_check.specs.promise.Checks.{array_told}
 use Rattle.union_cols.specs.promise.UnionRules as by
 use Rattle.union_cols.specs.promise.UnionRules.{Rule}
 use Rattle.root_check.specs.promise.Found.{RuleFound}
@@ -23,15 +22,6 @@ use Rattle.tree_top.specs.declared.fault.TreeRunFault.{TreeRunFault}
 use Rattle.tree_top.specs.declared.fault.TreeRunFault.TheVariants as run
 
 -- ---- schemas and arrays
-
-abbrev pub array_told : ArrayFault → LayoutFault
-array_told fault = record {
-  path = path_of fault.path;
-  rule = fault.rule;
-  place = fault.numbers.place;
-  left = fault.numbers.left;
-  right = fault.numbers.right;
-}
 
 -- the fault of a run by the first one of a schema
 abbrev pub schema_told : FirstFault → TreeRunFault

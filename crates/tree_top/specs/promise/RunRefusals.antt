@@ -16,7 +16,7 @@ use Rattle.run_ends.specs.declared.rule.RunsRule.TheVariants as rules
 use Rattle.run_ends.specs.declared.schema_fault.RunsSchemaFault.{RunsSchemaFault}
 use Rattle.run_ends.specs.declared.schema_fault.RunsSchemaFault.TheVariants as faults
 use Rattle.schema_check.specs.declared.schema.SchemaFault.TheVariants as schema
-use Rattle.tree_top.specs.promise.Refusals.{array_told}
+use Rattle.tree_check.specs.promise.Checks.{array_told}
 
 -- ---- the schema: the fault that tells what was found, and that of the check
 
