@@ -4,6 +4,5 @@ pub mod CommandLineStages
 pub mod Meant
 mod TreeLines
 pub mod Rows
-pub mod Numbers
 pub mod Taken
 pub mod Taking

@@ -1,6 +1,6 @@
 -- What the getters' answers are in the rows of the matches.
 use Rattle.std.proofs.Common.{◌≡◌, ◌∙◌, ap, sym, subst, ℕ, false, List, [], Option, Some, None, option_map, map, codes, Result, Ok, Err, IfOk}
-use Rattle.std.specs.Option.{unwrap_or}
+use Rattle.std.specs.Option.{option_and_then, unwrap_or}
 use Rattle.std.specs.Borrow.{Bor}
 use Rattle.clap.specs.Matches.{matched_of, raw_values}
 use Rattle.clap.specs.Words.{Row, Text, first_of, first_value, rows_of}
@@ -11,7 +11,7 @@ use Rattle.run_model.specs.declared.words.WordsError.{WordsError}
 use Rattle.run_model.specs.declared.words.WordsError.TheVariants as error
 use Rattle.run_model.specs.promise.Words.{Options, choice_if, default_batch, default_workers, flag_in, most_ahead, most_batch, most_rows}
 use Rattle.run_model.specs.Words.{Explains, asks_audit, texts_in}
-use Rattle.run_model.specs.promise.Words.{number_if, options_in, ruled, with_numbers}
+use Rattle.run_model.specs.promise.Words.{number_if, options_in, ruled}
 use Rattle.fan_out.specs.promise.Counts.{most_workers}
 
 -- the text that `get_str` gave
@@ -54,6 +54,22 @@ pub choice_is : (most : ℕ) (name : Text) (f : Found) (o : Option (Bor Text)) (
     → option_map (λ s. s.now) o ≡ first_value f name → result ≡ choice_if most (option_map (λ s. s.now) o) → result ≡ asked
     → choice_if most (first_of name (rows_of f)) ≡ asked
 choice_is most name f o result asked given read is = ap (choice_if most) (sym (given_text f name o given)) ∙ sym read ∙ is
+
+-- what rows ask for with the four numbers, where each is one
+abbrev with_numbers : List Row → Option ℕ → Option ℕ → Option (Option ℕ) → Option (Option ℕ) → Option Options
+with_numbers rows batches many made rounds =
+    option_and_then (λ batch. option_and_then (λ workers. option_and_then (λ selftest. option_map (λ ahead. record {
+      schema = first_of (codes "schema") rows;
+      batch = batch;
+      workers = workers;
+      audit = flag_in (codes "audit") rows;
+      check = flag_in (codes "check") rows;
+      selftest = selftest;
+      null = first_of (codes "null") rows;
+      ahead = ahead;
+      stages = texts_in (codes "stage") rows;
+    })
+    rounds) made) many) batches
 
 module _ (rows : List Row) where
   abbrev pub batch_asked : Option ℕ

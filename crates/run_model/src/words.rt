@@ -16,7 +16,7 @@ ghost use Rattle.stage_plan.specs.promise.PlanWords.{most_stages};
 ghost use Rattle.run_model.specs.promise.Words.{flag_rule, text_rule, arrowpipe, flag_in};
 ghost use Rattle.run_model.specs.Words.{bare_command, words_rule};
 ghost use Rattle.run_model.specs.Words.{ErrorOf, Explains};
-ghost use Rattle.run_model.specs.promise.Words.{begins_number, asks_of_table, choice_if, number_between, number_if, options_in, ruled};
+ghost use Rattle.run_model.specs.promise.Words.{asks_of_table, choice_if, number_if, options_in, ruled};
 ghost use Rattle.run_model.specs.Words.{options_of};
 ghost use Rattle.run_model.specs.promise.Words.{most_ahead, most_batch, most_rows, taken_of, texts_of, words_of};
 ghost use Rattle.run_model.specs.Words.{texts_in};
@@ -27,6 +27,7 @@ use clap::error::ErrorKind;
 use clap::{Arg, ArgAction, ArgMatches, Command};
 use std::alloc::{AllocError, Global};
 use std::fmt;
+use tree_check::number_between;
 
 /// How many records a chunk has at most where `--batch` isn't given.
 const DEFAULT_BATCH: u32 = 1024;
@@ -315,7 +316,7 @@ fn number_given(text: Option<&str>, usual: u32, most: u32) -> Option<u32>
     ensures { result ≡ number_if usual most (option_map (λ s. s.now) text.entry) }
 {
     match text {
-        Some(text) => number(text, 1, most),
+        Some(text) => number_between(text, 1, most),
         None => Some(usual),
     }
 }
@@ -325,30 +326,9 @@ fn choice_given(text: Option<&str>, most: u32) -> Option<Option<u32>>
     ensures { result ≡ choice_if most (option_map (λ s. s.now) text.entry) }
 {
     match text {
-        Some(text) => number(text, 1, most).map(Some),
+        Some(text) => number_between(text, 1, most).map(Some),
         None => Some(None),
     }
-}
-
-/// The number that decimal digits without sign or leading zero spell, where it lies between these two.
-fn number(text: &str, least: u32, most: u32) -> Option<u32>
-    ensures { result ≡ number_between least most text.now }
-{
-    if !begins_number(text.as_bytes()) {
-        return None;
-    }
-    match text.parse::<u32>() {
-        Ok(number) if least <= number && number <= most => Some(number),
-        Ok(_) => None,
-        Err(_) => None,
-    }
-}
-
-/// Whether a digit is first, which is `0` only as the whole text.
-fn begins_number(text: &[u8]) -> bool
-    ensures { result ≡ begins_number text.now }
-{
-    matches!(text, [b'0'] | [b'1'..=b'9', ..])
 }
 
 /// The words that are no options.

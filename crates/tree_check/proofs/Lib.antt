@@ -2,3 +2,4 @@ pub mod Coming
 mod SomeMeta
 mod SomeSchema
 pub mod OneCheck
+pub mod Numbers

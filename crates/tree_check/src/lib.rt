@@ -10,10 +10,11 @@
 //!   to the node ([`CheckFault`]). Both trees are released on every path, and the pass has counted what they were made of.
 //! - The law [`one_check`] says that each text has exactly one report or one fault, and [`some_schema_answer`] that each
 //!   schema which a text can spell has kinds or a first fault.
+//! - [`number_between`] reads a number among the words of a program.
 //!
 //! `NoMemory` comes only where memory runs out: in an import from the schema's check alone.
 //!
-//! The definitions are in `specs/promise/Checks.antt` and `specs/Imports.antt`. Left to others: the lines of a text and the
+//! The definitions are in `specs/promise` and `specs/Imports.antt`. Left to others: the lines of a text and the
 //! report (`tree_text`), the rules of schemas and arrays (`schema_check`, `layout_rules`), whether the root is a table
 //! (`layout_check::check_chunk`), the values of the column ([`Col`](arr_import::Col)), and the release of the structures
 //! that are taken.
@@ -23,10 +24,12 @@ mod check;
 mod fault;
 mod imported;
 mod laws;
+mod number;
 mod some;
 
 pub use check::check_tree;
 pub use fault::{CheckFault, TreeFault};
 pub use imported::{ImportFault, Imported, import};
 pub use laws::one_check;
+pub use number::number_between;
 pub use some::some_schema_answer;

@@ -14,6 +14,5 @@ pub mod NewLines
 pub mod TagLines
 pub mod NestLines
 pub mod NewRows
-pub mod ColumnNumbers
 pub mod Running
 mod RunFacts

@@ -1,16 +1,15 @@
 -- What the words of the command line mean: the matches that `clap` promises for a simple command and the rules on them, or a refusal.
-use Rattle.std.specs.Prelude.{◌==◌, ◌&&◌, ◌||◌, ℕ, nat_le, nat_lt, not, Bool, true, false, List, [], ◌∷◌, length, map, Option, None, Some}
+use Rattle.std.specs.Prelude.{◌&&◌, ◌||◌, ℕ, nat_lt, Bool, true, false, List, [], ◌∷◌, length, map, Option, None, Some}
 use Rattle.std.specs.Prelude.{option_map, Result, Ok, Err, if◌then◌else◌, codes, String, string_bytes}
-use Rattle.std.specs.Option.{is_some, option_map_or, unwrap_or}
-use Rattle.std.specs.Char.{is_ascii_digit}
-use Rattle.std.specs.Str.{all_ascii_digits, bytes_eq}
-use Rattle.std.specs.Str.Parse.{digits_value}
+use Rattle.std.specs.Option.{is_some, option_and_then, option_map_or, unwrap_or}
+use Rattle.std.specs.Str.{bytes_eq}
 use Rattle.std.specs.declared.alloc.Global.{Global}
 use Rattle.clap.specs.Words.{App, Row, Rule, Text, all_of, first_of, matches_of, new_app, new_rule, takes, with_rule}
 use Rattle.clap.specs.Simple.{on_top}
 use Rattle.clap.specs.declared.builder.action.ArgAction.TheVariants.{Append, SetTrue}
 use Rattle.fan_out.specs.promise.Counts.{most_workers}
 use Rattle.stage_plan.specs.promise.PlanWords.{most_stages}
+use Rattle.tree_check.specs.promise.Numbers.{number_between}
 use Rattle.run_model.specs.declared.words.WordsFault.{WordsFault}
 use Rattle.run_model.specs.declared.words.WordsFault.TheVariants.{Refused, TooManyStages, UsedWithCheck, UsedWithSelftest}
 
@@ -42,20 +41,6 @@ arrowpipe =
     text_rule (codes "ahead") ∷
     record (new_rule (codes "stage")) { action = Some Append } ∷
     [])
-
--- ---- numbers
-
--- a digit is first, which is `0` only as the whole text
-abbrev pub begins_number : Text → Bool
-begins_number [] = false
-begins_number (c ∷ cs) = is_ascii_digit c && (not (c == 48) || (length cs == 0))
-
--- the number that decimal digits without sign or leading zero spell, where it lies between these two
-abbrev pub number_between : ℕ → ℕ → Text → Option ℕ
-number_between least most text =
-    if (begins_number text && all_ascii_digits text) && (nat_le least (digits_value 10 text) && nat_le (digits_value 10 text) most)
-    then Some (digits_value 10 text)
-    else None
 
 -- ---- what is asked for
 
@@ -121,31 +106,25 @@ ruled (Some options) =
 abbrev pub flag_in : Text → List Row → Bool
 flag_in id rows = option_map_or (λ text. bytes_eq text (codes "true")) (first_of id rows) false
 
--- what matches ask for with the four numbers, where each is one
-abbrev pub with_numbers : List Row → Option ℕ → Option ℕ → Option (Option ℕ) → Option (Option ℕ) → Option Options
-with_numbers rows None workers selftest ahead = None
-with_numbers rows (Some batch) None selftest ahead = None
-with_numbers rows (Some batch) (Some workers) None ahead = None
-with_numbers rows (Some batch) (Some workers) (Some selftest) None = None
-with_numbers rows (Some batch) (Some workers) (Some selftest) (Some ahead) = Some (record {
-  schema = first_of (codes "schema") rows;
-  batch = batch;
-  workers = workers;
-  audit = flag_in (codes "audit") rows;
-  check = flag_in (codes "check") rows;
-  selftest = selftest;
-  null = first_of (codes "null") rows;
-  ahead = ahead;
-  stages = unwrap_or (all_of (codes "stage") rows) [];
-})
-
--- what matches ask for; without `--selftest` no rows are made, and without `--ahead` no thread reads ahead
+-- what matches ask for, where each of the four numbers is one; without `--selftest` no rows are made, and without `--ahead` no thread
+-- reads ahead
 abbrev pub options_in : List Row → Option Options
 options_in rows =
-    with_numbers rows (number_if default_batch most_batch (first_of (codes "batch") rows))
-    (number_if default_workers most_workers (first_of (codes "workers") rows))
-    (choice_if most_rows (first_of (codes "selftest") rows))
-    (choice_if most_ahead (first_of (codes "ahead") rows))
+    option_and_then (λ batch. option_and_then (λ workers. option_and_then (λ selftest. option_map (λ ahead. record {
+      schema = first_of (codes "schema") rows;
+      batch = batch;
+      workers = workers;
+      audit = flag_in (codes "audit") rows;
+      check = flag_in (codes "check") rows;
+      selftest = selftest;
+      null = first_of (codes "null") rows;
+      ahead = ahead;
+      stages = unwrap_or (all_of (codes "stage") rows) [];
+    })
+    (choice_if most_ahead (first_of (codes "ahead") rows)))
+    (choice_if most_rows (first_of (codes "selftest") rows)))
+    (number_if default_workers most_workers (first_of (codes "workers") rows)))
+    (number_if default_batch most_batch (first_of (codes "batch") rows))
 
 -- ---- the words
 

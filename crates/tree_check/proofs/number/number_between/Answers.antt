@@ -1,6 +1,6 @@
 use Rattle.std.proofs.Common.{rules}
-use Rattle.run_model.proofs.Numbers.{between, no_number}
-use Rattle.run_model.proofs.words.number.Goals as goal
+use Rattle.tree_check.proofs.Numbers.{between, no_number}
+use Rattle.tree_check.proofs.number.number_between.Goals as goal
 
 pub returns-in-Ok : goal.returns-in-Ok
 returns-in-Ok c =

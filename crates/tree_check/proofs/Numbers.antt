@@ -8,7 +8,7 @@ use Rattle.std.specs.Str.{all_ascii_digits}
 use Rattle.std.specs.Str.Parse.{ParsesUnsigned, digits_value}
 use Rattle.std.proofs.lemmas.Bool.{and_parts, le-leb, leb-true}
 use Rattle.std.proofs.lemmas.Str.Parse.{IsNumeralModel, numerals_by_value, parse_plain, tells_all_ascii_digits}
-use Rattle.tree_top.specs.promise.Columns.{begins_number, column_number, most_column}
+use Rattle.tree_check.specs.promise.Numbers.{begins_number, number_between}
 
 some : (text : List ℕ) → begins_number text ≡ true → 0 < length text
 some [] e = cc
@@ -24,13 +24,14 @@ no_plus (c ∷ cs) e =
     let digit = and_parts (nat_le 48 c) (nat_le c 57) front.0 in
     λ is. absurd (omega (arith, leb-true 48 c digit.0, is))
 
-none_of : (v : ℕ) (a b d : Bool) → (b ≡ true → d ≡ true → ⊥) → None ≡ cond ((a && b) && d) (Some v) None
-none_of v false b d never = refl
-none_of v true false d never = refl
-none_of v true true false never = refl
-none_of v true true true never = absurd (never refl refl)
+none_of : (v : ℕ) (a b c d : Bool) → (b ≡ true → d ≡ true → ⊥) → None ≡ cond ((a && b) && (c && d)) (Some v) None
+none_of v false b c d never = refl
+none_of v true false c d never = refl
+none_of v true true false d never = refl
+none_of v true true true false never = refl
+none_of v true true true true never = absurd (never refl refl)
 
-module _ (text : List ℕ) (begins : begins_number text ≡ true) {E : Type 0} (r : Result ℕ E) (parses : ParsesUnsigned 32 10 text r) where
+module _ (text : List ℕ) (least most : ℕ) (begins : begins_number text ≡ true) {E : Type 0} (r : Result ℕ E) (parses : ParsesUnsigned 32 10 text r) where
   abbrev value : ℕ
   value = digits_value 10 text
 
@@ -40,13 +41,13 @@ module _ (text : List ℕ) (begins : begins_number text ≡ true) {E : Type 0} (
   plain : OkIff r Digits value
   plain = parse_plain own 32 text r parses (no_plus text begins)
 
-  pub small : (n : ℕ) → r ≡ Ok n → n ≤ 1023 → Some n ≡ column_number text
-  small n ok low =
+  pub between : (n : ℕ) → r ≡ Ok n → least ≤ n → n ≤ most → Some n ≡ number_between least most text
+  between n ok low high =
       let got : Digits × (n ≡ value) = subst (λ (x : Result ℕ E). OkIff x Digits value) ok plain in
-      ap Some got.1 ∙ rw (begins, got.0.0, le-leb value most_column (omega (arith, low, got.1))) refl
+      ap Some got.1 ∙ rw (begins, got.0.0, le-leb least value (omega (arith, low, got.1)), le-leb value most (omega (arith, high, got.1))) refl
 
-  pub no_number : (e : E) → r ≡ Err e → None ≡ column_number text
-  no_number e err =
+  pub no_number : (e : E) → r ≡ Err e → most < 2 ^ 32 → None ≡ number_between least most text
+  no_number e err fits =
       let never : Digits → ⊥ = subst (λ (x : Result ℕ E). OkIff x Digits value) err plain in
-      none_of value (begins_number text) (all_ascii_digits text) (nat_le value most_column)
-      (λ digits low. never (digits, some text begins, omega (arith, leb-true value most_column low)))
+      none_of value (begins_number text) (all_ascii_digits text) (nat_le least value) (nat_le value most)
+      (λ digits small. never (digits, some text begins, omega (arith, fits, leb-true value most small)))
