@@ -18,22 +18,20 @@ use Rattle.stage_model.specs.declared.fault.PlanFault.TheVariants as plan
 use Rattle.edge_io.specs.promise.Edge.{LosesWithin}
 use Rattle.stream_face.specs.promise.Shown.{Seen, of_link}
 use Rattle.tree_check.specs.promise.Checks.{Checked}
-use Rattle.run_model.specs.promise.Answer.{Answer, Text, Fault, Request, Task, Table, Tree, Cause, OfWords}
-use Rattle.run_model.specs.promise.Answer.{OfTexts, OfPlan, OfRecords, OfTree, OfLength, Reading, Writing, Memory}
+use Rattle.tree_check.specs.promise.Runs.{Cause, OfWords, OfTexts, OfPlan, OfRecords, OfTree, OfLength, Reading}
+use Rattle.tree_check.specs.promise.Runs.{Writing, Memory, AtWriting, decides_early, is_writing, input_limit, IsRead, ReadFor}
+use Rattle.run_model.specs.promise.Answer.{Answer, Text, Fault, Request, Task, Table, Tree}
 use Rattle.run_model.specs.promise.Answer.{cause_of, fault_of_header, fault_of_plan}
-use Rattle.run_model.specs.promise.Outcomes.{AtWriting, decides_early, is_writing}
 use Rattle.run_model.specs.Outcomes.{AtWriteFault, is_decided, is_early, is_write_fault}
 use Rattle.run_model.specs.declared.fault.RunFault.{RunFault}
 use Rattle.run_model.specs.declared.fault.RunFault.TheVariants as run
 use Rattle.run_model.specs.promise.RunAnswer.{AnswersWithin}
 use Rattle.run_model.specs.RunAnswer.{AnswersBytes, AreBytes, answer_of_check, answer_of_columns, answer_of_plan}
 use Rattle.run_model.specs.RunAnswer.{IsTooLong}
-use Rattle.run_model.specs.promise.RunAnswer.{input_limit, IsAnswerTo}
+use Rattle.run_model.specs.promise.RunAnswer.{IsAnswerTo}
 use Rattle.run_model.specs.RunAnswer.{answer_of_rows}
-use Rattle.run_model.specs.promise.RunOutcomes.{IsRead}
 use Rattle.pipe_top.specs.promise.Over.{is_behind_records}
 use Rattle.pipe_top.specs.Over.{CarriedOver}
-use Rattle.pipe_top.specs.promise.Ran.{ReadFor}
 use Rattle.pipe_top.specs.promise.Traffic.{CountsTask, ShowsAsked, ShowsTask}
 use Rattle.pipe_top.proofs.Written.{answered, not-long, shown-within, some-bytes}
 

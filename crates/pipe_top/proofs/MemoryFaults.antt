@@ -48,7 +48,7 @@ use Rattle.run_model.specs.declared.fault.RunFault.{RunFault}
 use Rattle.run_model.specs.declared.fault.RunFault.TheVariants as run
 use Rattle.run_model.specs.promise.RunAnswer.{AnswersWithin, IsAnswer, IsAnswerTo}
 use Rattle.run_model.specs.RunAnswer.{answer_of_check, answer_of_columns, answer_of_plan, answer_of_rows}
-use Rattle.run_model.specs.promise.RunAnswer.{is_too_long}
+use Rattle.tree_check.specs.promise.Runs.{is_too_long}
 
 -- ---- of a result and of an answer
 

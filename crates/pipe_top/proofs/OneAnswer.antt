@@ -12,7 +12,8 @@ use Rattle.run_model.specs.promise.Answer.{Answer, EntriesAsk, Fault, OptionsAsk
 use Rattle.run_model.specs.promise.Answer.{request_with, stages_from, table_of}
 use Rattle.run_model.specs.declared.fault.RunFault.{RunFault}
 use Rattle.run_model.specs.declared.fault.RunFault.TheVariants as run
-use Rattle.run_model.specs.promise.RunAnswer.{AnswersWithin, IsAnswer, IsAnswerTo, answer_of_records, is_too_long}
+use Rattle.tree_check.specs.promise.Runs.{is_too_long}
+use Rattle.run_model.specs.promise.RunAnswer.{AnswersWithin, IsAnswer, IsAnswerTo, answer_of_records}
 use Rattle.run_model.specs.RunAnswer.{answer_of_check}
 
 module _ (some : (text : List ℕ) → (read : Result (List TypeEntry) TypesFault) × Reads text read)

@@ -6,14 +6,14 @@ use Rattle.std.proofs.lemmas.Bool.{false≢true}
 use Rattle.edge_io.specs.declared.edge.WriteFault.{WriteFault}
 use Rattle.unit_pass.specs.declared.pass.Audit.{Audit}
 use Rattle.stream_face.specs.promise.Shown.{Seen}
-use Rattle.run_model.specs.promise.Answer.{Answer, Asks, Task, Text, Tree, Fault, cause_of, Cause, OfWords, OfTexts, OfPlan, OfRecords}
-use Rattle.run_model.specs.promise.Answer.{OfTree, OfLength, Reading, Writing, Memory}
+use Rattle.tree_check.specs.promise.Runs.{Cause, OfWords, OfTexts, OfPlan, OfRecords, OfTree, OfLength, Reading}
+use Rattle.tree_check.specs.promise.Runs.{Writing, Memory, AtWriting, Took, GotFirst, GotText, IsRead, ReadFor}
+use Rattle.run_model.specs.promise.Answer.{Answer, Asks, Task, Text, Tree, Fault, cause_of}
 use Rattle.run_model.specs.promise.MemoryFaults.{has_memory_inside}
-use Rattle.run_model.specs.promise.Outcomes.{AtWriting}
 use Rattle.run_model.specs.Outcomes.{AtWriteFault, is_decided, is_early, is_write_fault}
 use Rattle.run_model.specs.Outcomes.{asked_of, fault_in, task_of}
 use Rattle.run_model.specs.declared.asked.Task.{Task as AsksTask}
-use Rattle.run_model.specs.promise.Diagnostics.{Told, Took, audit_if, fault_line}
+use Rattle.run_model.specs.promise.Diagnostics.{Told, audit_if, fault_line}
 use Rattle.run_model.specs.Diagnostics.{Says}
 use Rattle.run_model.specs.declared.fault.RunFault.{RunFault}
 use Rattle.run_model.specs.declared.fault.RunFault.TheVariants as run
@@ -26,8 +26,6 @@ use Rattle.pipe_top.proofs.Unshown.{unshown}
 use Rattle.pipe_top.proofs.Written.{some-bytes}
 use Rattle.run_model.specs.promise.RunAnswer.{AreInput, IsAnswer, IsAnswerTo, input_by}
 use Rattle.run_model.specs.RunAnswer.{AreBytes}
-use Rattle.run_model.specs.promise.RunOutcomes.{GotFirst, GotText, IsRead}
-use Rattle.pipe_top.specs.promise.Ran.{ReadFor}
 
 -- ---- diagnostics
 
@@ -169,18 +167,18 @@ module _ (words : List (List ℕ)) (request : Result AsksTask RunFault) (carried
             sym (carried-ok none) ∙ subst (λ (r : Result AsksTask RunFault). IfErr r (λ f. carried ≡ Err f)) at early in
             cc
 
-    text-of-answer : (old new : Option (List ℕ)) → OnOk carried (GotText (IsAnswerTo (asked_of request) bytes) old new) → fault ≡ None
-        → GotText (IsAnswer words bytes) old new
+    text-of-answer : (old new : Option (List ℕ)) → OnOk carried (GotText (λ t. IsAnswerTo (asked_of request) bytes (Text t)) old new) → fault ≡ None
+        → GotText (λ t. IsAnswer words bytes (Text t)) old new
     text-of-answer old new got none =
-        let here = subst (λ r. OnOk r (GotText (IsAnswerTo (asked_of request) bytes) old new)) (carried-ok none) got in
+        let here = subst (λ r. OnOk r (GotText (λ t. IsAnswerTo (asked_of request) bytes (Text t)) old new)) (carried-ok none) got in
         (here.0, answer-is (Text here.0) (done-asked none) here.1, here.2)
 
-    prefix-of-answer : (old new : Option (List ℕ)) → IfErr carried (λ f. AtWriteFault f (λ n. GotFirst (IsAnswerTo (asked_of request) bytes) old new n))
-        → IfSome fault (λ f. AtWriteFault f (λ n. GotFirst (IsAnswer words bytes) old new n))
+    prefix-of-answer : (old new : Option (List ℕ)) → IfErr carried (λ f. AtWriteFault f (λ n. GotFirst (λ t. IsAnswerTo (asked_of request) bytes (Text t)) old new n))
+        → IfSome fault (λ f. AtWriteFault f (λ n. GotFirst (λ t. IsAnswer words bytes (Text t)) old new n))
     prefix-of-answer old new =
-        then-fault (λ f. AtWriteFault f (λ n. GotFirst (IsAnswerTo (asked_of request) bytes) old new n))
-        (λ f. AtWriteFault f (λ n. GotFirst (IsAnswer words bytes) old new n))
-        (λ f is. at-writing (cause_of f) (λ n. GotFirst (IsAnswerTo (asked_of request) bytes) old new n) (λ n. GotFirst (IsAnswer words bytes) old new n)
+        then-fault (λ f. AtWriteFault f (λ n. GotFirst (λ t. IsAnswerTo (asked_of request) bytes (Text t)) old new n))
+        (λ f. AtWriteFault f (λ n. GotFirst (λ t. IsAnswer words bytes (Text t)) old new n))
+        (λ f is. at-writing (cause_of f) (λ n. GotFirst (λ t. IsAnswerTo (asked_of request) bytes (Text t)) old new n) (λ n. GotFirst (λ t. IsAnswer words bytes (Text t)) old new n)
         (λ n writes first. (first.0, answer-is (Text first.0) (writing-asked f is n writes) first.1, first.2, first.3)))
 
     refused-by-answer : IfErr carried (λ f. is_decided f ≡ true → IsAnswerTo (asked_of request) bytes (Fault f))
@@ -239,8 +237,8 @@ module _ (words : List (List ℕ)) (request : Result AsksTask RunFault) (carried
       refused-at f is = subst (λ o. IfSome o (λ f. is_decided f ≡ true → IsAnswer words bytes (Fault f))) is refused
 
       -- where the answer is a fault, it is reported, unless a read fails
-      complete-fault : (old new : Option (List ℕ)) → (fault ≡ None → GotText (IsAnswer words bytes) old new)
-          → IfSome fault (λ f. AtWriteFault f (λ n. GotFirst (IsAnswer words bytes) old new n))
+      complete-fault : (old new : Option (List ℕ)) → (fault ≡ None → GotText (λ t. IsAnswer words bytes (Text t)) old new)
+          → IfSome fault (λ f. AtWriteFault f (λ n. GotFirst (λ t. IsAnswer words bytes (Text t)) old new n))
           → (other : RunFault) → IsAnswer words bytes (Fault other) → (ReadRose → ⊥) → (fault ≡ Some other) ⊎ (fault ≡ Some run.NoMemory)
       complete-fault old new text first other answer no-read = go fault refl
         where
@@ -253,7 +251,7 @@ module _ (words : List (List ℕ)) (request : Result AsksTask RunFault) (carried
               inl (is ∙ ap Some one)
           by-cause f is (inr (inl reading)) = absurd (no-read (read (is ∙ ap Some reading)))
           by-cause f is (inr (inr (inl (taken, writing)))) =
-              let here = subst (λ o. IfSome o (λ f. AtWriteFault f (λ n. GotFirst (IsAnswer words bytes) old new n))) (is ∙ ap Some writing) first in
+              let here = subst (λ o. IfSome o (λ f. AtWriteFault f (λ n. GotFirst (λ t. IsAnswer words bytes (Text t)) old new n))) (is ∙ ap Some writing) first in
               let never : ◌≡◌ {A = Answer} (Text here.0) (Fault other) = alone words bytes (Text here.0) (Fault other) here.1 answer in
               cc
           by-cause f is (inr (inr (inr memory))) = inr (is ∙ ap Some memory)

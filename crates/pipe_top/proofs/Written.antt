@@ -9,9 +9,9 @@ use Rattle.stream_face.specs.promise.Shown.{Seen}
 use Rattle.csv_model.specs.promise.Reading.{records_of}
 use Rattle.run_model.specs.promise.Answer.{Answer, Request, Table, Task, Text}
 use Rattle.run_model.specs.declared.fault.RunFault.{RunFault}
-use Rattle.run_model.specs.promise.RunAnswer.{AnswersTask, AnswersWithin, IsAnswerTo, input_limit}
+use Rattle.tree_check.specs.promise.Runs.{input_limit, GotFirst, GotText}
+use Rattle.run_model.specs.promise.RunAnswer.{AnswersTask, AnswersWithin, IsAnswerTo}
 use Rattle.run_model.specs.RunAnswer.{AnswersBytes, AreBytes, IsTooLong}
-use Rattle.run_model.specs.promise.RunOutcomes.{GotFirst, GotText}
 use Rattle.pipe_top.specs.promise.Traffic.{ShowsAsked, links_of}
 use Rattle.pipe_top.specs.Traffic.{links_within}
 
@@ -47,11 +47,11 @@ module _ (asked : Result Task RunFault) (task : Task) (bytes : List ℕ) (is : a
   answered answer answers = subst (λ a. IsAnswerTo a bytes answer) (sym is) answers
 
   pub all-written : (old new : Option (List ℕ)) (text : List ℕ) → AnswersBytes task bytes (Text text) → Appends old new text
-      → GotText (IsAnswerTo asked bytes) old new
+      → GotText (λ t. IsAnswerTo asked bytes (Text t)) old new
   all-written old new text answers wrote = (text, answered (Text text) answers, wrote)
 
   pub first-written : (old new : Option (List ℕ)) (text : List ℕ) (taken : ℕ) → AnswersBytes task bytes (Text text) → taken ≤ length text
-      → Appends old new (take taken text) → GotFirst (IsAnswerTo asked bytes) old new taken
+      → Appends old new (take taken text) → GotFirst (λ t. IsAnswerTo asked bytes (Text t)) old new taken
   first-written old new text taken answers within wrote = (text, answered (Text text) answers, within, wrote)
 
   pub shown-for : (old new : Option (List Seen)) → ShowsAsked (Ok task) bytes old new → ShowsAsked asked bytes old new

@@ -11,7 +11,8 @@ ghost use Rattle.data_types.specs.Kinds.{KindOk};
 ghost use Rattle.stage_plan.specs.promise.PlanWords.{most_stages};
 ghost use Rattle.run_model.specs.promise.Answer.{Fault};
 ghost use Rattle.run_model.specs.Outcomes.{request_of};
-ghost use Rattle.run_model.specs.promise.RunAnswer.{answer_of_records, input_limit};
+ghost use Rattle.tree_check.specs.promise.Runs.{input_limit};
+ghost use Rattle.run_model.specs.promise.RunAnswer.{answer_of_records};
 ghost use Rattle.pipe_top.specs.Begun.{IsBegun};
 ghost use Rattle.pipe_top.specs.promise.Over.{is_behind_records};
 

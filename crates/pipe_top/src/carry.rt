@@ -10,12 +10,11 @@ ghost use Rattle.run_model.specs.promise.Words.{most_rows};
 ghost use Rattle.run_model.specs.promise.Answer.{Fault, Text, cause_of};
 ghost use Rattle.run_model.specs.Outcomes.{AtWriteFault, is_early, is_write_fault};
 ghost use Rattle.run_model.specs.Outcomes.{IfTable, asked_of, task_of};
-ghost use Rattle.run_model.specs.promise.RunAnswer.{input_by, input_limit};
+ghost use Rattle.tree_check.specs.promise.Runs.{input_limit, IsRead, ReadFor};
+ghost use Rattle.run_model.specs.promise.RunAnswer.{input_by};
 ghost use Rattle.run_model.specs.RunAnswer.{AnswersBytes, AreBytes, IsTooLong};
-ghost use Rattle.run_model.specs.promise.RunOutcomes.{IsRead};
 ghost use Rattle.pipe_top.specs.promise.Over.{is_behind_records};
 ghost use Rattle.pipe_top.specs.Over.{CarriedOver};
-ghost use Rattle.pipe_top.specs.promise.Ran.{ReadFor};
 ghost use Rattle.pipe_top.specs.promise.Traffic.{CountsTask, ShowsAsked, ShowsTask};
 
 use crate::answer::answer_input;

@@ -3,7 +3,7 @@ use Rattle.std.specs.Prelude.{ℕ, Bool, List, Option, None, Some, Result, Ok, E
 use Rattle.std.specs.Global.{Global}
 use Rattle.stage_plan.specs.declared.types.TypeEntry.{TypeEntry}
 use Rattle.run_model.specs.promise.Answer.{Request, Task, Table, Tree, cause_of}
-use Rattle.run_model.specs.promise.Outcomes.{AtWriting, decides, decides_early, is_writing}
+use Rattle.tree_check.specs.promise.Runs.{AtWriting, decides, decides_early, is_writing}
 use Rattle.run_model.specs.declared.request.Request.{Request as AsksFor}
 use Rattle.run_model.specs.declared.asked.Task.{Task as AsksTask}
 use Rattle.run_model.specs.declared.asked.Task.TheVariants as tasks

@@ -13,7 +13,8 @@ use Rattle.tree_check.specs.promise.Checks.{Checked}
 use Rattle.run_model.specs.promise.Words.{made_of}
 use Rattle.run_model.specs.promise.Answer.{Answer, Text, Request, Task, fault_of_row, fault_of_header, fault_of_plan}
 use Rattle.run_model.specs.declared.fault.RunFault.TheVariants as run
-use Rattle.run_model.specs.promise.RunAnswer.{AnswersWithin, by, input_by, input_limit, is_too_long}
+use Rattle.tree_check.specs.promise.Runs.{input_limit, is_too_long}
+use Rattle.run_model.specs.promise.RunAnswer.{AnswersWithin, by, input_by}
 
 -- ---- parts of the answer
 

@@ -1,6 +1,7 @@
 //! The outcome of a run: its fault, its exit status and its audit.
 ghost use Rattle.std.specs.Prelude.{◌≡◌, Some};
-ghost use Rattle.run_model.specs.promise.Answer.{status_of};
+ghost use Rattle.tree_check.specs.promise.Runs.{status_of};
+ghost use Rattle.run_model.specs.promise.Answer.{cause_of};
 ghost use Rattle.run_model.specs.Outcomes.{fault_in};
 
 use crate::fault::RunFault;
@@ -20,7 +21,7 @@ pub struct Outcome {
 
 /// The outcome of a run that wrote its text or failed with this fault, with this audit.
 pub fn outcome_of(carried: Result<(), RunFault>, audit: Audit) -> Outcome
-    ensures status { result.status ≡ status_of result.fault }
+    ensures status { result.status ≡ status_of cause_of result.fault }
     ensures fault { result.fault ≡ fault_in carried }
     ensures audit { result.audit ≡ audit }
 {
@@ -40,7 +41,7 @@ pub fn outcome_of(carried: Result<(), RunFault>, audit: Audit) -> Outcome
 
 /// The status of a fault.
 fn status(fault: RunFault) -> u8
-    ensures { result ≡ status_of (Some fault) }
+    ensures { result ≡ status_of cause_of (Some fault) }
 {
     match fault {
         RunFault::Words(_) => 2,

@@ -1,3 +1,4 @@
 pub mod Checks
 pub mod FaultTexts
 pub mod Numbers
+pub mod Runs

@@ -18,10 +18,11 @@ use Rattle.tree_text.specs.declared.fault.TextFault.{TextFault}
 use Rattle.tree_top.specs.promise.TextOrFault.{Answer, Fault, Text}
 use Rattle.tree_top.specs.promise.Answer.{AnswerWithin, CountsCommand, IsAnswerTo, ReadAnswer, TextAnswer}
 use Rattle.tree_top.specs.Answer.{AreBytes, IsTooLong}
-use Rattle.tree_top.specs.promise.Answer.{TreesAnswer, input_limit}
-use Rattle.tree_top.specs.promise.Faults.{AtWriting, Cause, Memory, OfLength, OfTrees, OfWords, Reading, Writing}
+use Rattle.tree_check.specs.promise.Runs.{AtWriting, Cause, Memory, OfLength, OfPlan, OfRecords, OfTexts, OfTree, OfWords, Reading, Writing}
+use Rattle.tree_check.specs.promise.Runs.{ReadFor, input_limit, is_writing}
+use Rattle.tree_top.specs.promise.Answer.{TreesAnswer}
 use Rattle.tree_top.specs.Faults.{AtWriteFault}
-use Rattle.tree_top.specs.promise.Faults.{cause_of, is_writing}
+use Rattle.tree_top.specs.promise.Faults.{cause_of}
 use Rattle.tree_top.specs.Faults.{is_decided, is_write_fault}
 use Rattle.tree_top.specs.Faults.{fault_in}
 use Rattle.data_types.specs.promise.Table.{Row}
@@ -37,7 +38,7 @@ use Rattle.tree_top.specs.AnswerParts.{ChunkCommand, answer_of_chunk, answer_of_
 use Rattle.tree_top.specs.AnswerParts.{flat_of_schema, flat_unless}
 use Rattle.tree_top.specs.AnswerParts.{chunk_of_kinds, chunk_unless}
 use Rattle.tree_top.specs.AnswerParts.{exploded, lines_unless, nested, new_rows_unless, answer_of_column}
-use Rattle.tree_top.specs.promise.Over.{RanOver, ReadFor}
+use Rattle.tree_top.specs.promise.Over.{RanOver}
 use Rattle.tree_top.specs.Refusals.{fault_of_tree}
 use Rattle.tree_top.specs.AnswerParts.{rows_of_kinds, rows_unless}
 use Rattle.tree_top.specs.AnswerParts.{runs_of_array, runs_of_kinds, runs_unless}
@@ -128,8 +129,11 @@ fault-cases run.NoMemory = inr (inr (inr refl))
 
 pub not-writing : (P : ℕ → Type 0) (cause : Cause) → is_writing cause ≡ false → AtWriting cause P
 not-writing P OfWords none = tt
+not-writing P OfTexts none = tt
+not-writing P OfPlan none = tt
+not-writing P OfRecords none = tt
 not-writing P OfLength none = tt
-not-writing P OfTrees none = tt
+not-writing P OfTree none = tt
 not-writing P Reading none = tt
 not-writing P (Writing taken) none = absurd (cc)
 not-writing P Memory none = tt
@@ -142,7 +146,7 @@ no-write P r fault is none = at-err (λ f. AtWriteFault f P) r fault is (not-wri
 
 -- neither the words nor the length of the input, nor the source or the sink
 abbrev pub IsOfText : Cause → Type 0
-IsOfText OfTrees = Unit {0}
+IsOfText OfTree = Unit {0}
 IsOfText Memory = Unit {0}
 IsOfText _ = ⊥
 
@@ -254,17 +258,23 @@ of-text command bytes fault (inr is) = in-read command is.read (Fault fault) is.
 
 pub not_writing-of : (cause : Cause) → IsOfText cause → is_writing cause ≡ false
 not_writing-of OfWords of = absurd of
+not_writing-of OfTexts of = absurd of
+not_writing-of OfPlan of = absurd of
+not_writing-of OfRecords of = absurd of
 not_writing-of OfLength of = absurd of
-not_writing-of OfTrees of = refl
+not_writing-of OfTree of = refl
 not_writing-of Reading of = absurd of
 not_writing-of (Writing taken) of = absurd of
 not_writing-of Memory of = refl
 
 -- it is found once the source was read
-pub read-of : (cause : Cause) → IsOfText cause → (before after : Option (List ℕ)) → IsAtEnd after → ReadFor cause before after
+pub read-of : (cause : Cause) → IsOfText cause → (before after : Option (List ℕ)) → IsAtEnd after → ReadFor cause None before after
 read-of OfWords of before after end = tt
+read-of OfTexts of before after end = tt
+read-of OfPlan of before after end = end
+read-of OfRecords of before after end = end
 read-of OfLength of before after end = absurd of
-read-of OfTrees of before after end = end
+read-of OfTree of before after end = end
 read-of Reading of before after end = tt
 read-of (Writing taken) of before after end = end
 read-of Memory of before after end = tt
@@ -368,8 +378,8 @@ module _ (alone : (command : Option Command) (bytes : List ℕ) (one other : Ans
 
 -- a write fails once the source was read
 pub failed-read : (before after : Option (List ℕ)) (taken : ℕ) (fault : TreeRunFault) → fault ≡ run.WriteFault taken → IsAtEnd after
-    → ReadFor (cause_of fault) before after
-failed-read before after taken fault is end = subst (λ f. ReadFor (cause_of f) before after) (sym is) end
+    → ReadFor (cause_of fault) None before after
+failed-read before after taken fault is end = subst (λ f. ReadFor (cause_of f) None before after) (sym is) end
 
 -- what a failed write isn't
 module _ (X : Type 0) (taken : ℕ) (fault : TreeRunFault) (is : fault ≡ run.WriteFault taken) where

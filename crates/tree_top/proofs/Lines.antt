@@ -4,7 +4,7 @@ use Rattle.std.specs.Io.KnownBytes.{Appends}
 use Rattle.edge_io.specs.promise.Edge.{Rose}
 use Rattle.edge_io.specs.Edge.{taken_by}
 use Rattle.edge_io.specs.declared.edge.WriteFault.{WriteFault}
-use Rattle.tree_top.specs.promise.Diagnostics.{Took}
+use Rattle.tree_check.specs.promise.Runs.{Took}
 
 pub took : (r : Result (Unit {0}) WriteFault) (old new : Option (List ℕ)) (before now : ℕ) (text : List ℕ) → OnOk r (Appends old new text)
     → OnErr r (Rose before now) → IfErr r (λ e. taken_by e ≤ length text) → IfErr r (λ e. Appends old new (take (taken_by e) text))

@@ -43,7 +43,7 @@ use Rattle.union_cols.specs.promise.UnionSchemas.{SchemaFound, UnionReads}
 use Rattle.union_cols.specs.promise.Unions.{UnionTree}
 use Rattle.tree_top.specs.promise.TextOrFault.{Answer, Fault, Text}
 use Rattle.tree_top.specs.promise.Answer.{AnswerWithin, IsAnswerTo, ReadAnswer, TreesAnswer}
-use Rattle.tree_top.specs.Answer.{is_too_long}
+use Rattle.tree_check.specs.promise.Runs.{is_too_long}
 use Rattle.tree_top.specs.AnswerParts.{ChunkCommand, answer_of_chunk, answer_of_kinds}
 use Rattle.tree_top.specs.AnswerParts.{flat_of_schema, flat_unless}
 use Rattle.tree_top.specs.AnswerParts.{chunk_of_kinds, chunk_unless}

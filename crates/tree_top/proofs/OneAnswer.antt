@@ -11,7 +11,7 @@ use Rattle.union_cols.specs.promise.UnionSchemas.{SchemaFound, UnionReads}
 use Rattle.union_cols.specs.promise.Unions.{UnionTree}
 use Rattle.tree_top.specs.promise.TextOrFault.{Answer, Fault}
 use Rattle.tree_top.specs.promise.Answer.{AnswerWithin, IsAnswerTo, ReadAnswer, TextAnswer, TreesAnswer}
-use Rattle.tree_top.specs.Answer.{is_too_long}
+use Rattle.tree_check.specs.promise.Runs.{is_too_long}
 use Rattle.run_ends.specs.promise.RunSchemas.{RunsReads}
 use Rattle.run_ends.specs.promise.RunSchemas.{SchemaFound as RunsSchemaFound}
 use Rattle.run_ends.specs.promise.Runs.{RunTree}

@@ -3,7 +3,8 @@
 use Rattle.std.specs.Prelude.{◌≡◌, ◌<◌, ℕ, nat_lt, Bool, List, length, Option, IfSome}
 use Rattle.std.specs.Option.{option_and_then}
 pub use Rattle.tree_top.specs.promise.TextOrFault.{Answer, Fault, Text}
-use Rattle.tree_top.specs.promise.Answer.{IsAnswerTo, column_command, command_of, input_limit}
+use Rattle.tree_check.specs.promise.Runs.{input_limit}
+use Rattle.tree_top.specs.promise.Answer.{IsAnswerTo, column_command, command_of}
 use Rattle.tree_top.specs.declared.command.Command.{Command}
 
 -- ---- the answer to words and bytes
@@ -21,9 +22,6 @@ command_of_column word number = option_and_then (column_command word) number
 -- the bytes are those that are stated, where some are stated
 abbrev pub AreBytes : Option (List ℕ) → List ℕ → Type 0
 AreBytes told bytes = IfSome told (λ l. l ≡ bytes)
-
-abbrev pub is_too_long : List ℕ → Bool
-is_too_long bytes = nat_lt input_limit (length bytes)
 
 -- an input, stated or not, is too long
 abbrev pub IsTooLong : Option (List ℕ) → Type 0

@@ -1,7 +1,8 @@
 -- The cause of a fault, and its status.
 use Rattle.std.specs.Prelude.{ℕ, Bool, Option, None, Some, Result, Ok, Err}
 use Rattle.tree_top.specs.declared.fault.TreeRunFault.{TreeRunFault}
-use Rattle.tree_top.specs.promise.Faults.{AtWriting, cause_of, decides, is_writing}
+use Rattle.tree_check.specs.promise.Runs.{AtWriting, decides, is_writing}
+use Rattle.tree_top.specs.promise.Faults.{cause_of}
 
 -- ---- causes
 

@@ -3,11 +3,11 @@ ghost use Rattle.std.specs.Prelude.{◌≡◌, ◌≢◌, ◌≤◌, ◌+◌, �
 ghost use Rattle.std.specs.Io.KnownBytes.{IsAtEnd, Keeps};
 ghost use Rattle.edge_io.specs.promise.Edge.{LosesWithin, Rose};
 ghost use Rattle.unit_pass.specs.declared.pass.TheConstants.{ROOM};
-ghost use Rattle.tree_top.specs.promise.Answer.{input_limit};
+ghost use Rattle.tree_check.specs.promise.Runs.{input_limit, ReadFor};
 ghost use Rattle.tree_top.specs.Answer.{AreBytes, IsTooLong};
 ghost use Rattle.tree_top.specs.promise.Faults.{cause_of};
 ghost use Rattle.tree_top.specs.Faults.{AtWriteFault, fault_in, is_write_fault};
-ghost use Rattle.tree_top.specs.promise.Over.{RanOver, ReadFor};
+ghost use Rattle.tree_top.specs.promise.Over.{RanOver};
 
 use crate::answer::answer_text;
 use crate::command::Command;
@@ -28,7 +28,7 @@ fn read_source<S: Source>(alloc: Global, source: &mut S) -> Result<Vec<u8>, Tree
     ensures fault { IfErr result (λ fault. (fault ≡ TreeRunFault.NoMemory)
         ⊎ (fault ≡ TreeRunFault.ReadFault) × Rose (S.faults source.old) (S.faults source.new)
         ⊎ (fault ≡ TreeRunFault.InputTooLong) × IsTooLong (S.left source.old)) }
-    ensures read { IfErr result (λ fault. ReadFor (cause_of fault) (S.left source.old) (S.left source.new)) }
+    ensures read { IfErr result (λ fault. ReadFor (cause_of fault) None (S.left source.old) (S.left source.new)) }
     ensures prefix { LosesWithin (S.left source.old) (S.left source.new) (input_limit + 1) }
 {
     match read_all(alloc, source, INPUT_LIMIT) {
@@ -52,7 +52,7 @@ fn run_command<S: Source, K: Sink>(
         × RanOver (Some command) bytes (fault_in result) (K.taken sink.old) (K.taken sink.new) pass.old.blocks pass.old.nodes
         pass.new.blocks pass.new.nodes (Rose (S.faults source.old) (S.faults source.new)) (Rose (K.faults sink.old) (K.faults sink.new)) }
     ensures read_to_end { OnOk result (IsAtEnd (S.left source.new)) }
-    ensures fault_read { IfErr result (λ fault. ReadFor (cause_of fault) (S.left source.old) (S.left source.new)) }
+    ensures fault_read { IfErr result (λ fault. ReadFor (cause_of fault) None (S.left source.old) (S.left source.new)) }
     ensures not_words { result ≢ Err TreeRunFault.Words }
     ensures read_fault { result ≡ Err TreeRunFault.ReadFault → Rose (S.faults source.old) (S.faults source.new) }
     ensures write_fault { IfErr result (λ fault. AtWriteFault fault (λ taken. Rose (K.faults sink.old) (K.faults sink.new))) }
@@ -84,7 +84,7 @@ pub(crate) fn run_over_source<S: Source, K: Sink>(
         × RanOver command bytes (fault_in result) (K.taken sink.old) (K.taken sink.new) pass.old.blocks pass.old.nodes pass.new.blocks pass.new.nodes
         (Rose (S.faults source.old) (S.faults source.new)) (Rose (K.faults sink.old) (K.faults sink.new)) }
     ensures read_to_end { OnOk result (IsAtEnd (S.left source.new)) }
-    ensures fault_read { IfErr result (λ fault. ReadFor (cause_of fault) (S.left source.old) (S.left source.new)) }
+    ensures fault_read { IfErr result (λ fault. ReadFor (cause_of fault) None (S.left source.old) (S.left source.new)) }
     ensures words { (result ≡ Err TreeRunFault.Words) ↔ (command ≡ None) }
     ensures words_unread { command ≡ None → Keeps (S.left source.old) (S.left source.new) }
     ensures words_unfailed { command ≡ None → S.faults source.new ≡ S.faults source.old }

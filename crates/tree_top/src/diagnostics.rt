@@ -1,6 +1,7 @@
 //! What is written of a fault. The line takes no memory.
 ghost use Rattle.std.specs.Prelude.{◌≡◌, Some};
-ghost use Rattle.tree_top.specs.promise.Diagnostics.{Took, status_line};
+ghost use Rattle.tree_check.specs.promise.Runs.{Took};
+ghost use Rattle.tree_top.specs.promise.Diagnostics.{status_line};
 
 use crate::fault::TreeRunFault;
 use edge_io::{Sink, WriteFault, write_all};

@@ -1,6 +1,7 @@
 //! The outcome of a run: its fault, its exit status and its audit.
 ghost use Rattle.std.specs.Prelude.{◌≡◌, Some};
-ghost use Rattle.tree_top.specs.promise.Faults.{status_of};
+ghost use Rattle.tree_check.specs.promise.Runs.{status_of};
+ghost use Rattle.tree_top.specs.promise.Faults.{cause_of};
 ghost use Rattle.tree_top.specs.Faults.{fault_in};
 
 use crate::fault::TreeRunFault;
@@ -20,7 +21,7 @@ pub struct TreeOutcome {
 
 /// The outcome of a run that wrote its text or failed with this fault, with this audit.
 pub(crate) fn outcome_of(carried: Result<(), TreeRunFault>, audit: Audit) -> TreeOutcome
-    ensures status { result.status ≡ status_of result.fault }
+    ensures status { result.status ≡ status_of cause_of result.fault }
     ensures fault { result.fault ≡ fault_in carried }
     ensures audit { result.audit ≡ audit }
 {
@@ -40,7 +41,7 @@ pub(crate) fn outcome_of(carried: Result<(), TreeRunFault>, audit: Audit) -> Tre
 
 /// The status of a fault.
 fn status(fault: TreeRunFault) -> u8
-    ensures { result ≡ status_of (Some fault) }
+    ensures { result ≡ status_of cause_of (Some fault) }
 {
     match fault {
         TreeRunFault::Words => 2,

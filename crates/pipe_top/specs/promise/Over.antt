@@ -1,11 +1,10 @@
 -- What a run comes to over the bytes of its input: the answer, what the sink got of it, what the tap saw and what was made.
 use Rattle.std.specs.Prelude.{◌≡◌, ◌⊎◌, ℕ, Bool, List, true, false, Option, None, Some, IfSome}
 use Rattle.run_model.specs.promise.Answer.{Fault, Text, cause_of}
-use Rattle.run_model.specs.promise.Outcomes.{AtWriting, decides}
+use Rattle.tree_check.specs.promise.Runs.{AtWriting, decides, GotFirst, GotText}
 use Rattle.run_model.specs.declared.fault.RunFault.{RunFault}
 use Rattle.run_model.specs.declared.fault.RunFault.TheVariants as run
 use Rattle.run_model.specs.promise.RunAnswer.{IsAnswer}
-use Rattle.run_model.specs.promise.RunOutcomes.{GotFirst, GotText}
 use Rattle.pipe_top.specs.promise.Traffic.{IsShown, IsShownInPart, IsTraffic}
 use Rattle.stream_face.specs.promise.Shown.{Seen}
 
@@ -20,11 +19,11 @@ is_behind_records _ = false
 pub record RanOver (words : List (List ℕ)) (bytes : List ℕ) (fault : Option RunFault) (taken got : Option (List ℕ))
     (seen shown : Option (List Seen)) (blocks nodes : ℕ) (ReadRose WriteRose : Type 0) : Type 0 where
   -- success: the answer is a text, and the sink got all of it
-  pub text : fault ≡ None → GotText (IsAnswer words bytes) taken got
+  pub text : fault ≡ None → GotText (λ t. IsAnswer words bytes (Text t)) taken got
   -- a fault that words and bytes decide is the answer
   pub refused : IfSome fault (λ f. decides (cause_of f) ≡ true → IsAnswer words bytes (Fault f))
   -- after a failed write the answer is a text, and the sink got its first bytes
-  pub first : IfSome fault (λ f. AtWriting (cause_of f) (λ count. GotFirst (IsAnswer words bytes) taken got count))
+  pub first : IfSome fault (λ f. AtWriting (cause_of f) (λ count. GotFirst (λ t. IsAnswer words bytes (Text t)) taken got count))
   -- on success the tap was shown each chunk of each link, once and in order, and each after all that it is made of; on a fault the first
   -- ones of each, and nothing where there are no links
   pub shows : fault ≡ None → IsShown words bytes seen shown

@@ -1,29 +1,18 @@
 -- What a run comes to: its answer, how far it read, what it left outside, and what it told.
 use Rattle.std.specs.Prelude.{◌≡◌, ◌⊎◌, ◌+◌, ℕ, List, true, false, Option, None, Some, IfSome, Ok, Err}
 use Rattle.std.specs.Io.KnownBytes.{Keeps}
-use Rattle.edge_io.specs.promise.Edge.{LosesCount, LosesWithin, Rose}
+use Rattle.edge_io.specs.promise.Edge.{LosesWithin, Rose}
 use Rattle.run_model.specs.promise.Words.{audit_of, made_of}
-use Rattle.run_model.specs.promise.Answer.{Asks, Tree, Cause, OfPlan, OfRecords, OfTree, OfLength, Writing, cause_of, status_of}
+use Rattle.tree_check.specs.promise.Runs.{AtWriting, IsRead, ReadFor, decides_early, input_limit, is_writing, status_of}
+use Rattle.run_model.specs.promise.Answer.{Asks, Tree, cause_of}
 use Rattle.run_model.specs.promise.MemoryFaults.{has_memory_inside}
-use Rattle.run_model.specs.promise.Outcomes.{AtWriting, decides_early, is_writing}
 use Rattle.run_model.specs.promise.Diagnostics.{Told, audit_if}
-use Rattle.run_model.specs.promise.RunAnswer.{AreInput, input_limit}
-use Rattle.run_model.specs.promise.RunOutcomes.{IsRead}
+use Rattle.run_model.specs.promise.RunAnswer.{AreInput}
 use Rattle.run_model.specs.declared.fault.RunFault.{RunFault}
 use Rattle.run_model.specs.declared.fault.RunFault.TheVariants as run
 use Rattle.run_model.specs.declared.outcome.Outcome.{Outcome}
 use Rattle.stream_face.specs.promise.Shown.{Seen}
 use Rattle.pipe_top.specs.promise.Over.{RanOver}
-
--- how far the source was read at a fault of this cause: to its end, where the fault is found behind that; and where the input is too
--- long, one byte past the most that are read
-abbrev pub ReadFor : Cause → Option ℕ → Option (List ℕ) → Option (List ℕ) → Type 0
-ReadFor OfPlan rows before after = IsRead rows before after
-ReadFor OfRecords rows before after = IsRead rows before after
-ReadFor OfTree rows before after = IsRead rows before after
-ReadFor (Writing taken) rows before after = IsRead rows before after
-ReadFor OfLength rows before after = LosesCount before after (input_limit + 1)
-ReadFor _ rows before after = Unit {0}
 
 -- what contracts see of the source, of both sinks and of the tap
 pub record Outside : Type 0 where
@@ -68,7 +57,7 @@ pub record Ran (words : List (List ℕ)) (old new : Outside) (outcome : Outcome)
   pub memory_alone : IfSome outcome.fault (λ fault. has_memory_inside fault ≡ false)
   -- The status is a function of the fault. Whatever the run comes to, the source has lost its first bytes, at most one past the most
   -- that are read.
-  pub status : outcome.status ≡ status_of outcome.fault
+  pub status : outcome.status ≡ status_of cause_of outcome.fault
   pub prefix : LosesWithin old.left new.left (input_limit + 1)
   -- Where the words are refused or a tree is checked, the tap saw nothing.
   pub unshown_early : (fault : RunFault) → Asks words (Err fault) → new.seen ≡ old.seen

@@ -13,7 +13,7 @@ use Rattle.tree_check.specs.promise.Checks.{CountsTrees}
 use Rattle.unit_pass.specs.promise.Tally.{risen}
 use Rattle.run_model.specs.promise.Answer.{Asks, Request, Table, Task, Tree}
 use Rattle.run_model.specs.declared.fault.RunFault.{RunFault}
-use Rattle.run_model.specs.promise.RunAnswer.{is_too_long}
+use Rattle.tree_check.specs.promise.Runs.{is_too_long}
 
 -- what is made of what was read, where it was, and else nothing
 abbrev pub or_none : {K F X : Type 0} → Result K F → (K → List X) → List X

@@ -15,6 +15,7 @@ use Rattle.stage_plan.specs.declared.fault.TypesFault.{TypesFault}
 use Rattle.stage_plan.specs.declared.fault.TypesFault.TheVariants as types
 use Rattle.stage_plan.specs.declared.types.TypeEntry.{TypeEntry}
 use Rattle.std.specs.Option.{unwrap_or}
+use Rattle.tree_check.specs.promise.Runs.{Cause, OfWords, OfTexts, OfPlan, OfRecords, OfTree, OfLength, Reading, Writing, Memory}
 use Rattle.run_model.specs.promise.Words.{Options, words_of}
 use Rattle.run_model.specs.declared.words.WordsFault.{WordsFault}
 use Rattle.run_model.specs.declared.fault.RunFault.{RunFault}
@@ -142,25 +143,6 @@ Asks words asked = OptionsAsk (words_of words) asked
 
 -- ---- causes
 
--- what a fault comes from
-pub data Cause : Type 0 where
-  -- the words
-  OfWords : Cause
-  -- a text among the words
-  OfTexts : Cause
-  -- the stages over the columns that are read
-  OfPlan : Cause
-  -- the header and the records
-  OfRecords : Cause
-  -- the tree that is checked
-  OfTree : Cause
-  -- the length of the input
-  OfLength : Cause
-  Reading : Cause
-  -- a write, when this many bytes of the text were taken
-  Writing : ℕ → Cause
-  Memory : Cause
-
 abbrev pub cause_of : RunFault → Cause
 cause_of (run.Words fault) = OfWords
 cause_of (run.Stage number fault) = OfTexts
@@ -178,19 +160,3 @@ cause_of run.InputTooLong = OfLength
 cause_of run.ReadFault = Reading
 cause_of (run.WriteFault taken) = Writing taken
 cause_of run.NoMemory = Memory
-
-abbrev pub status_by : Cause → ℕ
-status_by OfWords = 2
-status_by OfTexts = 3
-status_by OfPlan = 3
-status_by OfRecords = 4
-status_by OfLength = 5
-status_by Reading = 6
-status_by (Writing taken) = 7
-status_by OfTree = 8
-status_by Memory = 9
-
--- the status of a run, which is a function of its fault
-abbrev pub status_of : Option RunFault → ℕ
-status_of None = 0
-status_of (Some fault) = status_by (cause_of fault)

@@ -1,11 +1,10 @@
 -- What a run writes of its fault and of its audit, and what of that came to the sink of diagnostics.
-use Rattle.std.specs.Prelude.{ℕ, ◌≡◌, ◌≤◌, ◌⊎◌, ◌++◌, Bool, List, [], Option, None, Some, codes, decimal, length, take, if◌then◌else◌}
-use Rattle.std.specs.Io.KnownBytes.{Appends}
-use Rattle.edge_io.specs.promise.Edge.{Rose}
+use Rattle.std.specs.Prelude.{ℕ, ◌≡◌, ◌⊎◌, ◌++◌, Bool, List, [], Option, None, Some, codes, decimal, if◌then◌else◌}
 use Rattle.edge_io.specs.declared.edge.WriteFault.{WriteFault}
 use Rattle.stage_model.specs.promise.FaultTexts.{rule_text, stage_fault_text}
 use Rattle.stage_plan.specs.promise.FaultTexts.{rule_text as entry_text}
 use Rattle.tree_check.specs.promise.FaultTexts.{tree_fault_text}
+use Rattle.tree_check.specs.promise.Runs.{Took}
 use Rattle.unit_pass.specs.declared.pass.Audit.{Audit}
 use Rattle.run_model.specs.promise.FaultTexts.{fault_text as words_text}
 use Rattle.run_model.specs.declared.fault.RunFault.{RunFault}
@@ -43,10 +42,6 @@ audit_if wanted audit =
     if wanted then codes "audit blocks=" ++ decimal audit.blocks ++ codes " nodes=" ++ decimal audit.nodes ++ codes " left=0\n" else []
 
 -- ---- what came to the sink
-
--- the sink took a text, or its first bytes, and then its faults rose
-abbrev pub Took : Option (List ℕ) → Option (List ℕ) → ℕ → ℕ → List ℕ → Type 0
-Took old new before now text = Appends old new text ⊎ ((taken : ℕ) × (taken ≤ length text) × Appends old new (take taken text) × Rose before now)
 
 -- the line of a fault and a text of an audit were written, which may be missing without memory
 abbrev pub Told : Option (List ℕ) → Option (List ℕ) → ℕ → ℕ → Option RunFault → List ℕ → Type 0

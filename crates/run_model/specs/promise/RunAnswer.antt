@@ -1,5 +1,5 @@
 -- What a run answers: the text of the table that was read or the report of the tree that was checked, or the first fault.
-use Rattle.std.specs.Prelude.{◌≡◌, ℕ, nat_lt, Bool, true, false, List, length, Option, None, Some, IfSome, Result, Ok, Err}
+use Rattle.std.specs.Prelude.{◌≡◌, ℕ, Bool, true, false, List, Option, None, Some, IfSome, Result, Ok, Err}
 use Rattle.stage_plan.specs.promise.Entries.{entries_of}
 use Rattle.csv_model.specs.promise.Header.{header_of}
 use Rattle.csv_model.specs.promise.Reading.{Record, behind_header, body, records_of}
@@ -9,6 +9,7 @@ use Rattle.stage_model.specs.promise.Stages.{table}
 use Rattle.stage_model.specs.promise.Typing.{plan_of}
 use Rattle.tree_check.specs.promise.Checks.{Checked, ChecksTo}
 use Rattle.csv_model.specs.promise.Made.{made}
+use Rattle.tree_check.specs.promise.Runs.{is_too_long}
 use Rattle.run_model.specs.promise.Words.{made_of}
 use Rattle.run_model.specs.promise.Answer.{Answer, Text, Fault, Request, Task, Table, Tree, Asks, fault_of_row, fault_of_header, fault_of_plan}
 use Rattle.run_model.specs.declared.fault.RunFault.{RunFault}
@@ -36,14 +37,6 @@ answer_of_records request records =
 abbrev pub AnswersTask : Task → List ℕ → Answer → Type 0
 AnswersTask (Table request) bytes answer = answer ≡ answer_of_records request (records_of bytes)
 AnswersTask Tree bytes answer = (checked : Checked) × ChecksTo bytes checked × (answer ≡ by run.Tree checked Text)
-
--- the most bytes that are read
-abbrev pub input_limit : ℕ
-input_limit = 1_073_741_824
-
--- the input has more bytes than are read
-abbrev pub is_too_long : List ℕ → Bool
-is_too_long bytes = nat_lt input_limit (length bytes)
 
 -- the answer, where it is given whether the input is too long
 abbrev pub AnswersWithin : Bool → Task → List ℕ → Answer → Type 0

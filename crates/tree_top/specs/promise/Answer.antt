@@ -1,6 +1,6 @@
 -- What the program for trees answers: the text of a command, or the first fault of the words, the input, its text, the schema and
 -- the array.
-use Rattle.std.specs.Prelude.{◌≡◌, ◌+◌, ◌-◌, ◌*◌, ℕ, nat_lt, Bool, true, false, List, [], ◌∷◌, length, map, string_bytes, if◌then◌else◌, codes, Option, None, Some, Result, Ok, Err, String}
+use Rattle.std.specs.Prelude.{◌≡◌, ◌+◌, ◌-◌, ◌*◌, ℕ, Bool, true, false, List, [], ◌∷◌, length, map, string_bytes, if◌then◌else◌, codes, Option, None, Some, Result, Ok, Err, String}
 use Rattle.std.specs.Global.{Global}
 use Rattle.std.specs.Option.{option_and_then}
 use Rattle.std.specs.Str.{bytes_eq}
@@ -13,6 +13,7 @@ use Rattle.tree_model.specs.promise.TreeParts.{children_of}
 use Rattle.tree_model.specs.promise.TreeCost.{Holds, Nodes}
 use Rattle.raw_array.specs.promise.Members.{ArrayTree, holds}
 use Rattle.raw_schema.specs.promise.Members.{SchemaTree}
+use Rattle.tree_check.specs.promise.Runs.{is_too_long}
 use Rattle.tree_text.specs.promise.Answers.{Reads}
 use Rattle.tree_text.specs.promise.TreeText.{TreeIs}
 use Rattle.tree_text.specs.declared.fault.TextFault.{TextFault}
@@ -85,10 +86,6 @@ pub record TextAnswer (command : Command) (bytes : List ℕ) (answer : Answer) :
 
 -- ---- the answer to words and bytes
 
--- the most bytes that are read
-abbrev pub input_limit : ℕ
-input_limit = 1_073_741_824
-
 -- where it is given whether the input is too long
 abbrev pub AnswerWithin : Bool → Command → List ℕ → Answer → Type 0
 AnswerWithin true command bytes answer = answer ≡ Fault run.InputTooLong
@@ -96,7 +93,7 @@ AnswerWithin false command bytes answer = TextAnswer command bytes answer
 
 -- where there may be no command
 abbrev pub IsAnswerTo : Option Command → List ℕ → Answer → Type 0
-IsAnswerTo (Some command) bytes answer = AnswerWithin (nat_lt input_limit (length bytes)) command bytes answer
+IsAnswerTo (Some command) bytes answer = AnswerWithin (is_too_long bytes) command bytes answer
 IsAnswerTo None bytes answer = answer ≡ Fault run.Words
 
 -- ---- what is made

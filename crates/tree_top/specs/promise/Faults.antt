@@ -1,5 +1,5 @@
 -- The cause of a fault, and its status.
-use Rattle.std.specs.Prelude.{ℕ, Bool, true, false, Option, None, Some, ⊤}
+use Rattle.std.specs.Prelude.{ℕ, Bool, true, false, Option, None, Some}
 use Rattle.fmt_string.specs.declared.fault.FormatFault.{FormatFault}
 use Rattle.fmt_string.specs.declared.fault.FormatFault.TheVariants as format
 use Rattle.schema_check.specs.declared.schema.SchemaFault.{SchemaFault}
@@ -8,6 +8,7 @@ use Rattle.schema_check.specs.declared.rule.SchemaRule.{SchemaRule}
 use Rattle.schema_check.specs.declared.rule.SchemaRule.TheVariants as rules
 use Rattle.schema_meta.specs.declared.fault.MetaFault.{MetaFault}
 use Rattle.schema_meta.specs.declared.fault.MetaFault.TheVariants as meta
+use Rattle.tree_check.specs.promise.Runs.{Cause, OfWords, OfTree, OfLength, Reading, Writing, Memory}
 use Rattle.tree_text.specs.declared.fault.TextFault.{TextFault}
 use Rattle.tree_text.specs.declared.fault.TextFault.TheVariants as texts
 use Rattle.list_cols.specs.declared.fault.ListFault.{ListFault}
@@ -25,66 +26,24 @@ use Rattle.tree_top.specs.declared.fault.TreeRunFault.TheVariants as run
 
 -- ---- causes
 
-pub data Cause : Type 0 where
-  OfWords : Cause
-  -- the length of the input
-  OfLength : Cause
-  -- the text, the schema, the array, or columns that a command can't take
-  OfTrees : Cause
-  Reading : Cause
-  -- a write, when this many bytes of the text were taken
-  Writing : ℕ → Cause
-  Memory : Cause
-
 abbrev pub cause_of : TreeRunFault → Cause
 cause_of run.Words = OfWords
 cause_of run.InputTooLong = OfLength
 cause_of run.ReadFault = Reading
 cause_of (run.WriteFault taken) = Writing taken
-cause_of (run.Text fault) = OfTrees
-cause_of (run.Schema path rule) = OfTrees
-cause_of (run.Layout fault) = OfTrees
-cause_of (run.UnionSchema fault) = OfTrees
-cause_of (run.Union fault) = OfTrees
-cause_of (run.Tag fault) = OfTrees
-cause_of (run.RunsSchema fault) = OfTrees
-cause_of (run.Runs fault) = OfTrees
-cause_of (run.Code fault) = OfTrees
-cause_of (run.TooManyColumns count) = OfTrees
-cause_of (run.Column column) = OfTrees
-cause_of (run.Lists fault) = OfTrees
+cause_of (run.Text fault) = OfTree
+cause_of (run.Schema path rule) = OfTree
+cause_of (run.Layout fault) = OfTree
+cause_of (run.UnionSchema fault) = OfTree
+cause_of (run.Union fault) = OfTree
+cause_of (run.Tag fault) = OfTree
+cause_of (run.RunsSchema fault) = OfTree
+cause_of (run.Runs fault) = OfTree
+cause_of (run.Code fault) = OfTree
+cause_of (run.TooManyColumns count) = OfTree
+cause_of (run.Column column) = OfTree
+cause_of (run.Lists fault) = OfTree
 cause_of run.NoMemory = Memory
-
-abbrev pub status_by : Cause → ℕ
-status_by OfWords = 2
-status_by OfLength = 5
-status_by Reading = 6
-status_by (Writing taken) = 7
-status_by OfTrees = 8
-status_by Memory = 9
-
--- the status of a run, which is a function of its fault
-abbrev pub status_of : Option TreeRunFault → ℕ
-status_of None = 0
-status_of (Some fault) = status_by (cause_of fault)
-
--- the words and the bytes of the input decide a fault of this cause
-abbrev pub decides : Cause → Bool
-decides OfWords = true
-decides OfLength = true
-decides OfTrees = true
-decides Reading = false
-decides (Writing taken) = false
-decides Memory = false
-
-abbrev pub is_writing : Cause → Bool
-is_writing (Writing taken) = true
-is_writing _ = false
-
--- this many bytes were taken before a write failed
-abbrev pub AtWriting : Cause → (ℕ → Type 0) → Type 0
-AtWriting (Writing taken) P = P taken
-AtWriting _ P = ⊤
 
 -- ---- out of memory inside another fault
 

@@ -1,39 +1,22 @@
 -- What a run comes to over the bytes of its input: the answer, what the sink got of it, and what was made.
-use Rattle.std.specs.Prelude.{◌≡◌, ◌+◌, ◌≤◌, ◌⊎◌, ℕ, List, length, take, true, Option, None, Some, IfSome}
-use Rattle.std.specs.Io.KnownBytes.{Appends, IsAtEnd}
-use Rattle.edge_io.specs.promise.Edge.{LosesCount}
+use Rattle.std.specs.Prelude.{◌≡◌, ◌⊎◌, ℕ, List, true, Option, None, Some, IfSome}
 use Rattle.tree_top.specs.promise.TextOrFault.{Answer, Fault, Text}
-use Rattle.tree_top.specs.promise.Answer.{CountsCommand, IsAnswerTo, input_limit}
-use Rattle.tree_top.specs.promise.Faults.{AtWriting, Cause, OfLength, OfTrees, Writing, cause_of, decides}
+use Rattle.tree_check.specs.promise.Runs.{AtWriting, GotFirst, GotText, decides}
+use Rattle.tree_top.specs.promise.Answer.{CountsCommand, IsAnswerTo}
+use Rattle.tree_top.specs.promise.Faults.{cause_of}
 use Rattle.tree_top.specs.declared.command.Command.{Command}
 use Rattle.tree_top.specs.declared.fault.TreeRunFault.{TreeRunFault}
 use Rattle.tree_top.specs.declared.fault.TreeRunFault.TheVariants as run
-
--- an answer is a text, and the sink got all of it
-abbrev pub GotText : (Answer → Type 0) → Option (List ℕ) → Option (List ℕ) → Type 0
-GotText IsAnswer old new = (text : List ℕ) × IsAnswer (Text text) × Appends old new text
-
--- an answer is a text, and the sink got its first bytes
-abbrev pub GotFirst : (Answer → Type 0) → Option (List ℕ) → Option (List ℕ) → ℕ → Type 0
-GotFirst IsAnswer old new taken = (text : List ℕ) × IsAnswer (Text text) × (taken ≤ length text) × Appends old new (take taken text)
-
--- how far the source was read at a fault of this cause: to its end, where the fault is found behind that; and where the input is too
--- long, one byte past the most that are read
-abbrev pub ReadFor : Cause → Option (List ℕ) → Option (List ℕ) → Type 0
-ReadFor OfTrees before after = IsAtEnd after
-ReadFor (Writing taken) before after = IsAtEnd after
-ReadFor OfLength before after = LosesCount before after (input_limit + 1)
-ReadFor _ before after = Unit {0}
 
 -- ReadRose and WriteRose say that the source's and the sink's faults rose
 pub record RanOver (command : Option Command) (bytes : List ℕ) (fault : Option TreeRunFault) (taken got : Option (List ℕ))
     (old_blocks old_nodes blocks nodes : ℕ) (ReadRose WriteRose : Type 0) : Type 0 where
   -- success: the answer is a text, and the sink got all of it
-  pub text : fault ≡ None → GotText (IsAnswerTo command bytes) taken got
+  pub text : fault ≡ None → GotText (λ t. IsAnswerTo command bytes (Text t)) taken got
   -- a fault that words and bytes decide is the answer
   pub refused : IfSome fault (λ f. decides (cause_of f) ≡ true → IsAnswerTo command bytes (Fault f))
   -- after a failed write the answer is a text, and the sink got its first bytes
-  pub first : IfSome fault (λ f. AtWriting (cause_of f) (λ count. GotFirst (IsAnswerTo command bytes) taken got count))
+  pub first : IfSome fault (λ f. AtWriting (cause_of f) (λ count. GotFirst (λ t. IsAnswerTo command bytes (Text t)) taken got count))
   -- on success as many blocks and nodes were made as the command makes
   pub counts : fault ≡ None → IfSome command (λ c. CountsCommand c bytes old_blocks old_nodes blocks nodes)
   -- where neither rose and the answer is a text, it is given, or there was no memory

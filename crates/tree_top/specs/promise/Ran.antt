@@ -2,10 +2,11 @@
 use Rattle.std.specs.Prelude.{◌≡◌, ◌↔◌, ◌+◌, ℕ, List, false, Option, None, Some, IfSome}
 use Rattle.std.specs.Io.KnownBytes.{IsAtEnd, Keeps}
 use Rattle.edge_io.specs.promise.Edge.{LosesWithin, Rose}
-use Rattle.tree_top.specs.promise.Answer.{command_of, input_limit}
-use Rattle.tree_top.specs.promise.Faults.{AtWriting, cause_of, has_memory_inside, is_writing, status_of}
-use Rattle.tree_top.specs.promise.Over.{RanOver, ReadFor}
-use Rattle.tree_top.specs.promise.Diagnostics.{Took, status_line}
+use Rattle.tree_check.specs.promise.Runs.{AtWriting, ReadFor, Took, input_limit, is_writing, status_of}
+use Rattle.tree_top.specs.promise.Answer.{command_of}
+use Rattle.tree_top.specs.promise.Faults.{cause_of, has_memory_inside}
+use Rattle.tree_top.specs.promise.Over.{RanOver}
+use Rattle.tree_top.specs.promise.Diagnostics.{status_line}
 use Rattle.tree_top.specs.declared.fault.TreeRunFault.TheVariants as run
 use Rattle.tree_top.specs.declared.outcome.TreeOutcome.{TreeOutcome}
 
@@ -30,7 +31,7 @@ pub record Ran (args : List (List ℕ)) (old new : Outside) (outcome : TreeOutco
   -- On success the source was read to its end.
   pub read_to_end : outcome.fault ≡ None → IsAtEnd new.left
   -- So it was on a fault that is found behind that; where the input is too long, just past the most bytes that are read.
-  pub fault_read : IfSome outcome.fault (λ fault. ReadFor (cause_of fault) old.left new.left)
+  pub fault_read : IfSome outcome.fault (λ fault. ReadFor (cause_of fault) None old.left new.left)
   -- The words are refused exactly where they aren't a command, and the source is then as before.
   pub words : (outcome.fault ≡ Some run.Words) ↔ (command_of args ≡ None)
   pub words_unread : command_of args ≡ None → Keeps old.left new.left
@@ -44,7 +45,7 @@ pub record Ran (args : List (List ℕ)) (old new : Outside) (outcome : TreeOutco
   pub memory_alone : IfSome outcome.fault (λ fault. has_memory_inside fault ≡ false)
   -- The status is a function of the fault. Whatever the run comes to, the source has lost its first bytes, at most one past the most
   -- that are read.
-  pub status : outcome.status ≡ status_of outcome.fault
+  pub status : outcome.status ≡ status_of cause_of outcome.fault
   pub prefix : LosesWithin old.left new.left (input_limit + 1)
   -- Nothing is left.
   pub audit : outcome.audit.left ≡ 0

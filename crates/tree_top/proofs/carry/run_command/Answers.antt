@@ -2,7 +2,7 @@ use Rattle.std.proofs.Common.{◌≤◌, ◌∙◌, Some, length, ap, refl, subs
 use Rattle.std.specs.Io.KnownBytes.{Appends}
 use Rattle.edge_io.specs.promise.Edge.{Rose}
 use Rattle.edge_io.specs.Edge.{taken_by}
-use Rattle.tree_top.specs.promise.Answer.{input_limit}
+use Rattle.tree_check.specs.promise.Runs.{input_limit}
 use Rattle.tree_top.specs.Answer.{AreBytes}
 use Rattle.tree_top.specs.promise.TextOrFault.{Text}
 use Rattle.tree_top.specs.promise.Faults.{cause_of}

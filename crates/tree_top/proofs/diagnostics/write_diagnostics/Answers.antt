@@ -1,5 +1,6 @@
 use Rattle.std.proofs.Common.{◌∙◌, ap, subst, sym}
-use Rattle.tree_top.specs.promise.Diagnostics.{Took, status_line}
+use Rattle.tree_check.specs.promise.Runs.{Took}
+use Rattle.tree_top.specs.promise.Diagnostics.{status_line}
 use Rattle.tree_top.proofs.Lines.{took}
 use Rattle.tree_top.proofs.diagnostics.write_diagnostics.Goals as goal
 
